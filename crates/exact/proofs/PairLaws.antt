@@ -1,0 +1,168 @@
+-- Points go through the operations on pairs: what lies in the operands' pairs is taken to what lies in the result's. So pairs that meet have results that meet.
+use mathlib.Core.Path.{_≡_, refl}
+use mathlib.Core.Bool.{Bool, true, false, cond}
+use lib.Dec.{T}
+use Rattle.exact.specs.Fraction.{Fraction, leQ, _≤q_, _<q_, _+q_, _-q_, _*q_, _/q_, zeroQ, maxQ}
+use Rattle.exact.proofs.FractionLaws.{≤q-refl, ≤q-trans, ≤q-or, <q-≤q-trans, ≤q-<q-trans, mul-above, min-above, add-mono, sub-mono, Between, upward, downward, mul-between-left, mul-between-right, between-low, between-high, recip-anti, min-left, min-right, max-left, max-right, min-greatest, max-least}
+use Rattle.exact.specs.Pair.{Pair, _∈_, Meets, Proper, AboveZero, exactly, _+p_, _-p_, span4, _*p_, _/p_, hull, reachesUpTo, reachesAbove, branch}
+
+-- every point of P is one of Q
+pub record Within (P Q : Pair) : Type 0 where
+  pub lower : Q .low ≤q P .low
+  pub higher : P .high ≤q Q .high
+
+-- ---- points of one pair
+
+pub in-exactly : (x : Fraction) → x ∈ exactly x
+unfolding exactly
+in-exactly x = record { from = ≤q-refl x; to = ≤q-refl x }
+
+pub in-within : {x : Fraction} {P Q : Pair} → Within P Q → x ∈ P → x ∈ Q
+in-within w h = record { from = ≤q-trans (w .lower) (h .from); to = ≤q-trans (h .to) (w .higher) }
+
+pub in-proper : {x : Fraction} {P : Pair} → x ∈ P → Proper P
+in-proper h = record { ordered = ≤q-trans (h .from) (h .to) }
+
+pub in-add : {x y : Fraction} {P Q : Pair} → x ∈ P → y ∈ Q → x +q y ∈ P +p Q
+unfolding _+p_
+in-add h k = record { from = add-mono (h .from) (k .from); to = add-mono (h .to) (k .to) }
+
+pub in-sub : {x y : Fraction} {P Q : Pair} → x ∈ P → y ∈ Q → x -q y ∈ P -p Q
+unfolding _-p_
+in-sub h k = record { from = sub-mono (h .from) (k .to); to = sub-mono (h .to) (k .from) }
+
+-- the four that are spanned
+module _ (a b c d : Fraction) where
+  pub in-first : a ∈ span4 a b c d
+  unfolding span4
+  in-first = record { from = ≤q-trans (min-left _ _) (min-left a b); to = ≤q-trans (max-left a b) (max-left _ _) }
+
+  pub in-second : b ∈ span4 a b c d
+  unfolding span4
+  in-second = record { from = ≤q-trans (min-left _ _) (min-right a b); to = ≤q-trans (max-right a b) (max-left _ _) }
+
+  pub in-third : c ∈ span4 a b c d
+  unfolding span4
+  in-third = record { from = ≤q-trans (min-right _ _) (min-left c d); to = ≤q-trans (max-left c d) (max-right _ _) }
+
+  pub in-fourth : d ∈ span4 a b c d
+  unfolding span4
+  in-fourth = record { from = ≤q-trans (min-right _ _) (min-right c d); to = ≤q-trans (max-right c d) (max-right _ _) }
+
+-- what lies between two points of a pair lies in it
+pub between-in : {a b z : Fraction} {P : Pair} → Between a b z → a ∈ P → b ∈ P → z ∈ P
+between-in g h k = record { from = between-low g (h .from) (k .from); to = between-high g (h .to) (k .to) }
+
+-- x from a to b, and y from c to d or from d to c: x y is among the four products
+in-span : {a b c d x y : Fraction} → Between a b x → Between c d y → x *q y ∈ span4 (a *q c) (a *q d) (b *q c) (b *q d)
+in-span {a} {b} {c} {d} {x} {y} h k =
+    between-in (mul-between-left y h)
+    (between-in (mul-between-right a k) (in-first _ _ _ _) (in-second _ _ _ _))
+    (between-in (mul-between-right b k) (in-third _ _ _ _) (in-fourth _ _ _ _))
+
+in-between : {x : Fraction} {P : Pair} → x ∈ P → Between (P .low) (P .high) x
+in-between h = upward (h .from) (h .to)
+
+pub in-mul : {x y : Fraction} {P Q : Pair} → x ∈ P → y ∈ Q → x *q y ∈ P *p Q
+unfolding _*p_
+in-mul h k = in-span (in-between h) (in-between k)
+
+pub in-div : {x y : Fraction} {P Q : Pair} → AboveZero Q → x ∈ P → y ∈ Q → x /q y ∈ P /p Q
+unfolding _/p_ _/q_
+in-div z h k = in-span (in-between h) (downward (recip-anti (<q-≤q-trans (z .above) (k .from)) (k .to)) (recip-anti (z .above) (k .from)))
+
+in-hull-left : {x : Fraction} {P : Pair} (Q : Pair) → x ∈ P → x ∈ hull P Q
+unfolding hull
+in-hull-left Q h = record { from = ≤q-trans (min-left _ _) (h .from); to = ≤q-trans (h .to) (max-left _ _) }
+
+in-hull-right : {x : Fraction} (P : Pair) {Q : Pair} → x ∈ Q → x ∈ hull P Q
+unfolding hull
+in-hull-right P h = record { from = ≤q-trans (min-right _ _) (h .from); to = ≤q-trans (h .to) (max-right _ _) }
+
+-- ---- branches
+
+-- a branch is reached if points of the compared pairs meet its condition
+reached-upTo : {x y : Fraction} {P Q : Pair} → x ∈ P → y ∈ Q → x ≤q y → T (reachesUpTo P Q)
+unfolding reachesUpTo
+reached-upTo h k g = ≤q-trans (h .from) (≤q-trans g (k .to)) .le
+
+reached-above : {x y : Fraction} {P Q : Pair} → x ∈ P → y ∈ Q → y <q x → T (reachesAbove P Q)
+unfolding reachesAbove
+reached-above h k g = <q-≤q-trans (≤q-<q-trans (k .from) g) (h .to) .lt
+
+cond-upTo : (c e : Bool) (A B : Pair) {z : Fraction} → T c → z ∈ A → z ∈ cond c (cond e (hull A B) A) B
+cond-upTo true true A B t h = in-hull-left B h
+cond-upTo true false A B t h = h
+cond-upTo false e A B t h = absurd t
+
+cond-above : (c e : Bool) (A B : Pair) {z : Fraction} → T e → z ∈ B → z ∈ cond c (cond e (hull A B) A) B
+cond-above true true A B t h = in-hull-right A h
+cond-above true false A B t h = absurd t
+cond-above false e A B t h = h
+
+-- z where x is up to y, else w
+pub in-branch : {x y z w : Fraction} {P Q A B : Pair} → x ∈ P → y ∈ Q → z ∈ A → w ∈ B → cond (leQ x y) z w ∈ branch P Q A B
+unfolding branch
+in-branch {x} {y} {z} {w} {P} {Q} {A} {B} h k i j = go (leQ x y) refl
+  where
+    go : (c : Bool) → leQ x y ≡ c → cond c z w ∈ cond (reachesUpTo P Q) (cond (reachesAbove P Q) (hull A B) A) B
+    go true e = cond-upTo (reachesUpTo P Q) (reachesAbove P Q) A B (reached-upTo h k (record { le = rw e tt })) i
+    go false e = cond-above (reachesUpTo P Q) (reachesAbove P Q) A B (reached-above h k (record { lt = rw e tt })) j
+
+-- ---- pairs that meet
+
+-- proper pairs meet where neither lies above the other
+pub ends-meet : {P Q : Pair} → Proper P → Proper Q → P .low ≤q Q .high → Q .low ≤q P .high → Meets P Q
+ends-meet {P} {Q} p q h k = record {
+  point = maxQ (P .low) (Q .low);
+  left = record { from = max-left _ _; to = max-least (p .ordered) k };
+  right = record { from = max-right _ _; to = max-least h (q .ordered) };
+}
+
+pub meets-within : {P P' Q : Pair} → Within P P' → Meets P Q → Meets P' Q
+meets-within w m = record { point = m .point; left = in-within w (m .left); right = m .right }
+
+module _ {P P' Q Q' : Pair} (m : Meets P P') (k : Meets Q Q') where
+  pub meets-add : Meets (P +p Q) (P' +p Q')
+  meets-add = record { point = m .point +q k .point; left = in-add (m .left) (k .left); right = in-add (m .right) (k .right) }
+
+  pub meets-sub : Meets (P -p Q) (P' -p Q')
+  meets-sub = record { point = m .point -q k .point; left = in-sub (m .left) (k .left); right = in-sub (m .right) (k .right) }
+
+  pub meets-mul : Meets (P *p Q) (P' *p Q')
+  meets-mul = record { point = m .point *q k .point; left = in-mul (m .left) (k .left); right = in-mul (m .right) (k .right) }
+
+  pub meets-div : AboveZero Q → AboveZero Q' → Meets (P /p Q) (P' /p Q')
+  meets-div z z' = record { point = m .point /q k .point; left = in-div z (m .left) (k .left); right = in-div z' (m .right) (k .right) }
+
+  pub meets-branch : {A A' B B' : Pair} → Meets A A' → Meets B B' → Meets (branch P Q A B) (branch P' Q' A' B')
+  meets-branch i j = record {
+    point = cond (leQ (m .point) (k .point)) (i .point) (j .point);
+    left = in-branch (m .left) (k .left) (i .left) (j .left);
+    right = in-branch (m .right) (k .right) (i .right) (j .right);
+  }
+
+-- ---- products
+
+pub proper-mul : (P Q : Pair) → Proper (P *p Q)
+unfolding _*p_
+proper-mul P Q = in-proper (in-first _ _ _ _)
+
+-- four points of a pair span a part of it
+pub span-within : {a b c d : Fraction} {P : Pair} → a ∈ P → b ∈ P → c ∈ P → d ∈ P → Within (span4 a b c d) P
+unfolding span4
+span-within h i j k = record {
+  lower = min-greatest (min-greatest (h .from) (i .from)) (min-greatest (j .from) (k .from));
+  higher = max-least (max-least (h .to) (i .to)) (max-least (j .to) (k .to));
+}
+
+above-high : {P : Pair} → Proper P → AboveZero P → zeroQ <q P .high
+above-high p z = <q-≤q-trans (z .above) (p .ordered)
+
+pub above-mul : {P Q : Pair} → AboveZero P → AboveZero Q → Proper P → Proper Q → AboveZero (P *p Q)
+unfolding _*p_ span4
+above-mul z y p q = record {
+  above =
+      min-above (min-above (mul-above (z .above) (y .above)) (mul-above (z .above) (above-high q y)))
+      (min-above (mul-above (above-high p z) (y .above)) (mul-above (above-high p z) (above-high q y)));
+}

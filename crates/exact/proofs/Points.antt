@@ -1,0 +1,100 @@
+-- The fact about pairs. Put a point of its pair for each logarithm and root of a formula: the value that the formula then has lies in
+-- the formula's pair. So ends that hold this value, whatever the points, enclose the formula. One fact serves every operation.
+use mathlib.Core.Bool.{cond}
+use Prim.Native.Nat.{ℕ, _≤_, _<_}
+use native.Mathlib.Nat.{le-of-lt}
+use Rattle.exact.specs.Fraction.{Fraction, leQ, _+q_, _-q_, _*q_, _/q_}
+use Rattle.exact.specs.Pair.{Pair, _∈_, Proper, AboveZero}
+use Rattle.exact.specs.Logarithm.{lnPair}
+use Rattle.exact.specs.Root.{rootPair}
+use Rattle.exact.specs.Formula.{Formula, stated, ln, root, _⊕_, _⊖_, _⊗_, _⊘_, ifUpTo, eval, Defined, Encloses}
+use Rattle.exact.proofs.PairLaws.{in-exactly, in-add, in-sub, in-mul, in-div, in-branch, proper-mul, above-mul}
+use Rattle.exact.proofs.LogarithmLaws.{ln-proper, ln-above}
+
+-- a point for each logarithm and each root
+pub record Points : Type 0 where
+  pub lnAt : ℕ → ℕ → Fraction
+  pub rootAt : ℕ → Fraction
+
+-- the value of a formula at these points
+unfoldable pub value : Points → Formula → Fraction
+value σ (stated x) = x
+value σ (ln a b) = σ .lnAt a b
+value σ (root X) = σ .rootAt X
+value σ (e ⊕ f) = value σ e +q value σ f
+value σ (e ⊖ f) = value σ e -q value σ f
+value σ (e ⊗ f) = value σ e *q value σ f
+value σ (e ⊘ f) = value σ e /q value σ f
+value σ (ifUpTo e f A B) = cond (leQ (value σ e) (value σ f)) (value σ A) (value σ B)
+
+-- each is a point of its pair at fineness n
+pub record Picked (n : ℕ) (σ : Points) : Type 0 where
+  pub lnIn : (a b : ℕ) → 1 ≤ a → 1 ≤ b → σ .lnAt a b ∈ lnPair n a b
+  pub rootIn : (X : ℕ) → σ .rootAt X ∈ rootPair n X
+
+-- ---- where the fact holds
+
+-- e is above zero at every fineness: it may be a divisor
+pub record Positive (e : Formula) : Type 0 where
+  pub proper : (n : ℕ) → 1 ≤ n → Proper (eval n e)
+  pub above : (n : ℕ) → 1 ≤ n → AboveZero (eval n e)
+
+pub positive-ln : {a b : ℕ} → 1 ≤ b → b < a → Positive (ln a b)
+unfolding eval
+positive-ln hb hab = record { proper = ln-proper hb (le-of-lt hab); above = ln-above hb hab }
+
+pub positive-product : {e f : Formula} → Positive e → Positive f → Positive (e ⊗ f)
+unfolding eval
+positive-product p q = record {
+  proper = λ n g. proper-mul _ _;
+  above = λ n g. above-mul (p .above n g) (q .above n g) (p .proper n g) (q .proper n g);
+}
+
+-- logarithms are of numbers of at least 1, and divisors are above zero at every fineness
+unfoldable pub Sound : Formula → Type 0
+Sound (stated x) = Unit {0}
+Sound (ln a b) = (1 ≤ a) × (1 ≤ b)
+Sound (root X) = Unit {0}
+Sound (e ⊕ f) = Sound e × Sound f
+Sound (e ⊖ f) = Sound e × Sound f
+Sound (e ⊗ f) = Sound e × Sound f
+Sound (e ⊘ f) = Sound e × Sound f × Positive f
+Sound (ifUpTo e f A B) = Sound e × Sound f × Sound A × Sound B
+
+sound-defined : (n : ℕ) → 1 ≤ n → (e : Formula) → Sound e → Defined n e
+unfolding Sound Defined
+sound-defined n g (stated x) s = tt
+sound-defined n g (ln a b) s = tt
+sound-defined n g (root X) s = tt
+sound-defined n g (e ⊕ f) s = (sound-defined n g e (s .0), sound-defined n g f (s .1))
+sound-defined n g (e ⊖ f) s = (sound-defined n g e (s .0), sound-defined n g f (s .1))
+sound-defined n g (e ⊗ f) s = (sound-defined n g e (s .0), sound-defined n g f (s .1))
+sound-defined n g (e ⊘ f) s = (sound-defined n g e (s .0), sound-defined n g f (s .1), s .2 .above n g)
+sound-defined n g (ifUpTo e f A B) s =
+    (sound-defined n g e (s .0), sound-defined n g f (s .1), λ t. sound-defined n g A (s .2), λ t. sound-defined n g B (s .3))
+
+-- ---- the fact
+
+module _ {n : ℕ} {σ : Points} (g : 1 ≤ n) (picked : Picked n σ) where
+  pub value-in : (e : Formula) → Sound e → value σ e ∈ eval n e
+  unfolding value eval Sound
+  value-in (stated x) s = in-exactly x
+  value-in (ln a b) s = picked .lnIn a b (s .0) (s .1)
+  value-in (root X) s = picked .rootIn X
+  value-in (e ⊕ f) s = in-add (value-in e (s .0)) (value-in f (s .1))
+  value-in (e ⊖ f) s = in-sub (value-in e (s .0)) (value-in f (s .1))
+  value-in (e ⊗ f) s = in-mul (value-in e (s .0)) (value-in f (s .1))
+  value-in (e ⊘ f) s = in-div (s .2 .above n g) (value-in e (s .0)) (value-in f (s .1))
+  value-in (ifUpTo e f A B) s = in-branch (value-in e (s .0)) (value-in f (s .1)) (value-in A (s .2)) (value-in B (s .3))
+
+-- points of the pairs at fineness n, at which e has a value in P
+pub record Witness (n : ℕ) (P : Pair) (e : Formula) : Type 0 where
+  pub points : Points
+  pub picked : Picked n points
+  pub held : value points e ∈ P
+
+pub encloses-by : {e : Formula} {P : Pair} → Sound e → ((n : ℕ) → 1 ≤ n → Witness n P e) → Encloses P e
+encloses-by {e} s w = record {
+  defined = λ n g. sound-defined n g e s;
+  meets = λ n g. record { point = value (w n g .points) e; left = w n g .held; right = value-in g (w n g .picked) e s };
+}
