@@ -187,6 +187,9 @@ zero-addQ x =
     let left = add-Is zero-Is (is-self x) in
     ≤q-antisym (le-of left (is-self x) (omega arith)) (le-of (is-self x) left (omega arith))
 
+pub add-more : (x : Fraction) {y : Fraction} → zeroQ ≤q y → x ≤q x +q y
+add-more x h = ≤q-trans (≈q-≥q (zero-addQ x)) (≤q-trans (add-comm-le _ _) (add-mono (≤q-refl x) h))
+
 pub neg-anti : {x y : Fraction} → x ≤q y → negQ y ≤q negQ x
 neg-anti {x} {y} h = le-of (neg-Is (is-self y)) (neg-Is (is-self x)) (omega (arith, le-as (is-self x) (is-self y) h))
 

@@ -4,10 +4,10 @@ use Prim.Native.Nat.{ℕ, zero, suc, _+_, _*_, _-_, _≤_, _<_}
 use native.Mathlib.Nat.{le-refl, add-zero, zero-add, zero-mul, suc-add, add-suc, one-le-mul, mul-le-mul-right, le-of-eq, sub-add-cancel}
 use native.Mathlib.Omega.{arith}
 use lib.IntN.{pos}
-use Rattle.exact.specs.Fraction.{_over_, _≤q_, _≈q_, _+q_}
+use Rattle.exact.specs.Fraction.{_over_, _≤q_, _≈q_, _+q_, zeroQ}
 use Rattle.exact.specs.Logarithm.{harmonic}
 use Rattle.signed.proofs.Whole.{up, down}
-use Rattle.exact.proofs.FractionLaws.{zero-Is, over-Is, add-Is, le-of, ≤q-refl, ≤q-trans, ≤q-antisym, ≈q-≤q, ≈q-≥q, add-mono, add-assoc, zero-addQ}
+use Rattle.exact.proofs.FractionLaws.{zero-Is, over-Is, add-Is, le-of, ≤q-refl, ≤q-trans, ≤q-antisym, ≈q-≤q, ≈q-≥q, add-mono, add-more, add-assoc, zero-addQ}
 
 -- ---- n / d with n not negative
 
@@ -31,6 +31,17 @@ harmonic-split (suc c) d k =
     (≤q-antisym
     (≤q-trans (add-mono (≤q-refl _) (≈q-≤q (harmonic-split c d (suc k)))) (≈q-≥q (add-assoc _ _ _)))
     (≤q-trans (≈q-≤q (add-assoc _ _ _)) (add-mono (≤q-refl _) (≈q-≥q (harmonic-split c d (suc k))))))
+
+-- ---- not below zero, and more for more terms
+
+pub harmonic-least : (c k : ℕ) → 1 ≤ k → zeroQ ≤q harmonic c k
+unfolding harmonic up down
+harmonic-least zero k h = ≤q-refl _
+harmonic-least (suc c) k h =
+    ≤q-trans (le-of zero-Is (over-Is (pos 1) k h) (omega arith)) (add-more _ (harmonic-least c (suc k) (omega arith)))
+
+pub harmonic-more : (c d k : ℕ) → 1 ≤ k → harmonic c k ≤q harmonic (c + d) k
+harmonic-more c d k h = ≤q-trans (add-more _ (harmonic-least d (k + c) (omega arith))) (≈q-≥q (harmonic-split c d k))
 
 -- ---- weights over one denominator
 

@@ -11,9 +11,9 @@ use Rattle.exact.specs.Pair.{Pair, Proper, AboveZero}
 use Rattle.exact.specs.Logarithm.{harmonic, lowerSum, upperSum, lnPair}
 use Rattle.exact.specs.Formula.{ln, eval, Defined, Encloses}
 use Rattle.signed.proofs.Whole.{up, down}
-use Rattle.exact.proofs.FractionLaws.{zero-Is, over-Is, le-of, lt-of, ≤q-refl, ≤q-trans, <q-≤q-trans, ≈q-≤q, ≈q-≥q, add-mono, add-comm-le, zero-addQ}
+use Rattle.exact.proofs.FractionLaws.{zero-Is, over-Is, le-of, lt-of, ≤q-refl, ≤q-trans, <q-≤q-trans, ≈q-≤q, ≈q-≥q, add-mono, add-more, add-comm-le}
 use Rattle.exact.proofs.PairLaws.{ends-meet}
-use Rattle.exact.proofs.Harmonic.{over-≤, over-add, harmonic-split, finer-upper, finer-lower}
+use Rattle.exact.proofs.Harmonic.{over-≤, over-add, harmonic-split, harmonic-least, harmonic-more, finer-upper, finer-lower}
 
 -- l is at most the logarithm of a/b: at most each upper sum
 pub record LowerBound (l : Fraction) (a b : ℕ) : Type 0 where
@@ -31,13 +31,22 @@ lower-weaken h p = record { at = λ n g. ≤q-trans h (p .at n g) }
 pub upper-weaken : {h h' : Fraction} {a b : ℕ} → h ≤q h' → UpperBound h a b → UpperBound h' a b
 upper-weaken g p = record { at = λ n k. ≤q-trans (p .at n k) g }
 
-pub lower-same : (a : ℕ) {S : ℕ} → 1 ≤ S → LowerBound (pos 0 over S) a a
-unfolding upperSum harmonic up down
-lower-same a {S} h = record { at = λ n g. rw sub-self (le-of (over-Is (pos 0) S h) zero-Is (omega arith)) }
+-- for a ≥ b the logarithm is at least 0
+pub lower-zero : {a b S : ℕ} → 1 ≤ b → 1 ≤ S → LowerBound (pos 0 over S) a b
+unfolding upperSum up down
+lower-zero {S = S} hb h = record { at = λ n g. ≤q-trans (le-of (over-Is (pos 0) S h) zero-Is (omega arith)) (harmonic-least _ _ (one-le-mul hb g)) }
 
 pub upper-same : (a : ℕ) {S : ℕ} → 1 ≤ S → UpperBound (pos 0 over S) a a
 unfolding lowerSum harmonic up down
 upper-same a {S} h = record { at = λ n g. rw sub-self (le-of zero-Is (over-Is (pos 0) S h) (omega arith)) }
+
+-- what bounds the logarithm of a'/b bounds that of a/b, for a up to a'
+pub upper-less : {h : Fraction} {a a' b : ℕ} → b ≤ a → a ≤ a' → UpperBound h a' b → UpperBound h a b
+unfolding lowerSum
+upper-less {a = a} {a'} {b} p q u = record { at = λ n g. ≤q-trans (rw (two n) (harmonic-more (a * n - b * n) (a' * n - a * n) (suc (b * n)) (omega arith))) (u .at n g) }
+  where
+    two : (n : ℕ) → a' * n - b * n ≡ (a * n - b * n) + (a' * n - a * n)
+    two n = omega (arith, mul-le-mul-right n p, mul-le-mul-right n q)
 
 -- ---- a chain from b by c to a
 
@@ -112,17 +121,11 @@ unfolding harmonic
 harmonic-later zero k h = ≤q-refl _
 harmonic-later (suc c) k h = add-mono (over-≤ 1 1 (omega arith) h (omega arith)) (harmonic-later c (suc k) (omega arith))
 
-harmonic-least : (c k : ℕ) → 1 ≤ k → zeroQ ≤q harmonic c k
-unfolding harmonic up down
-harmonic-least zero k h = ≤q-refl _
-harmonic-least (suc c) k h = ≤q-trans (≈q-≥q (zero-addQ zeroQ)) (add-mono (le-of zero-Is (over-Is (pos 1) k h) (omega arith)) (harmonic-least c (suc k) (omega arith)))
-
 harmonic-above : (c k : ℕ) → 1 ≤ c → 1 ≤ k → zeroQ <q harmonic c k
 unfolding harmonic up down
 harmonic-above zero k hc hk = absurd (omega arith)
 harmonic-above (suc c) k hc hk =
-    <q-≤q-trans (lt-of zero-Is (over-Is (pos 1) k hk) (omega arith))
-    (≤q-trans (≈q-≥q (zero-addQ _)) (≤q-trans (add-comm-le _ _) (add-mono (≤q-refl _) (harmonic-least c (suc k) (omega arith)))))
+    <q-≤q-trans (lt-of zero-Is (over-Is (pos 1) k hk) (omega arith)) (add-more _ (harmonic-least c (suc k) (omega arith)))
 
 module _ {a b : ℕ} (hb : 1 ≤ b) (hab : b ≤ a) where
   -- for a ≥ b the ends are the two sums

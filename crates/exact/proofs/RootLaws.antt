@@ -1,4 +1,5 @@
 -- The greatest whole number whose square is at most m, and what encloses a root.
+use mathlib.Core.Path.{_≡_}
 use mathlib.Core.Bool.{Bool, true, false, not, cond}
 use Prim.Native.Nat.{ℕ, zero, suc, _*_, _≤_, _<_}
 use native.Mathlib.Nat.{mul-le-mul, mul-le-mul-right, one-le-mul}
@@ -34,6 +35,11 @@ wholeRoot-is m = greatest-is m m (omega arith)
 -- squares in order are of numbers in order
 root-order : (a b : ℕ) → a * a < b * b → a < b
 root-order a b h = elim (decLe b a) [ yes p ↦ absurd (omega (arith, mul-le-mul p p)) | no p ↦ omega arith ]
+
+-- it is the only one
+pub root-unique : {m j k : ℕ} → IsRoot m j → IsRoot m k → j ≡ k
+root-unique {m} {j} {k} p q =
+    omega (arith, root-order j (suc k) (omega (arith, p .low, q .high)), root-order k (suc j) (omega (arith, q .low, p .high)))
 
 pub root-below : {m k : ℕ} (b : ℕ) → IsRoot m k → m < b * b → k < b
 root-below {m} {k} b r h = root-order k b (omega (arith, r .low))

@@ -1,0 +1,9 @@
+pub mod Areas
+pub mod Places
+pub mod Walk
+pub mod TableTests
+pub mod Factors
+pub mod Octave
+pub mod Newton
+pub mod Remainder
+pub mod Sum

@@ -1,0 +1,25 @@
+-- The last arm of a match that reads a table: where a number is none of those before n, it is n or more, and the table's last entry stands.
+use mathlib.Core.Path.{_≡_, refl, sym}
+use mathlib.Core.List.{List, [], _∷_, _++_}
+use Prim.Native.Nat.{ℕ, zero, suc, _≤_}
+use native.Mathlib.Nat.{le-of-suc-le-suc, not-suc-le-zero}
+use native.Mathlib.Omega.{arith}
+use lib.ListN.{length, getD}
+
+-- i is none of 0 to n − 1, as a match has it
+abbrev pub Missed : ℕ → ℕ → Type 0
+Missed i zero = Unit {0}
+Missed i (suc n) = Missed i n × (i ≡ n → ⊥)
+
+missed : (i n : ℕ) → Missed i n → n ≤ i
+missed i zero m = omega arith
+missed i (suc n) m = omega (arith, missed i n (m .0), m .1)
+
+past : {A : Type 0} (d : A) (xs : List A) (i : ℕ) → length xs ≤ i → d ≡ getD (xs ++ (d ∷ [])) i d
+past d [] zero h = refl
+past d [] (suc i) h = refl
+past d (x ∷ xs) zero h = absurd (not-suc-le-zero h)
+past d (x ∷ xs) (suc i) h = past d xs i (le-of-suc-le-suc h)
+
+pub last : {A : Type 0} (d : A) (xs : List A) (i : ℕ) → Missed i (length xs) → d ≡ getD (xs ++ (d ∷ [])) i d
+last d xs i m = past d xs i (missed i (length xs) m)

@@ -1,0 +1,65 @@
+-- What the logarithm and the root compute, in whole numbers. Callers go by the laws (proofs/Laws), and never by this text.
+use mathlib.Core.Bool.{cond}
+use Prim.Native.Nat.{ℕ, _+_, _*_, _-_, _/_, _^_, _≤_, _<_}
+use lib.Count.{leadingZeros}
+use lib.Dec.{eqb}
+use Rattle.exact.specs.Root.{wholeRoot}
+use Rattle.logarithm.specs.declared.Ends.{Ends}
+use Rattle.logarithm.specs.declared.Scaled.{Scaled}
+use Rattle.logarithm.specs.declared.table.Factor.{Factor}
+use Rattle.logarithm.specs.Tables.{ln2, coarseAt, fineAt}
+
+-- ---- ln(a/b)
+
+-- the arguments of the logarithm of a/b
+pub record LnDomain (a b : ℕ) : Type 0 where
+  pub some : 1 ≤ b
+  pub order : b ≤ a
+  pub small : a < 2 ^ 29
+
+-- a/b as mantissa 2^octave / 2^35, rounded down
+unfoldable pub scaledOf : ℕ → ℕ → Scaled
+scaledOf a b =
+    let x : ℕ = a * 2 ^ 35 / b in
+    let k : ℕ = 28 - leadingZeros 64 x in
+    record { octave = k; mantissa = x / 2 ^ k }
+
+pub record Mantissa (y : ℕ) : Type 0 where
+  pub least : 2 ^ 35 ≤ y
+  pub most : y < 2 ^ 36
+
+pub record Normal (s : Scaled) : Type 0 where
+  pub few : s .octave ≤ 28
+  pub mantissa : Mantissa (s .mantissa)
+
+pub record NearOne (p : ℕ) : Type 0 where
+  pub least : 2 ^ 61 ≤ p
+  pub most : p < 2 ^ 61 + 20_480 * 2 ^ 35
+
+-- d − d²/2, d = p/2^61 − 1 in units of 2^-41; the result in units of 10^-9/4096, rounded down
+unfoldable pub nearOneOf : ℕ → ℕ
+nearOneOf p =
+    let d : ℕ = (p - 2 ^ 61) / 2 ^ 20 in
+    (d - (d * d + (2 ^ 42 - 1)) / 2 ^ 42) * 1_000_000_000 / 2 ^ 29
+
+-- ln(y/2^35) in units of 10^-9/4096, each part rounded down
+unfoldable pub mantissaLnOf : ℕ → ℕ
+mantissaLnOf y =
+    let c : Factor = coarseAt (y / 2 ^ 29 - 64) in
+    let f : Factor = fineAt (y * c .by / 2 ^ 35 - 4096) in
+    c .logarithm + f .logarithm + nearOneOf (y * c .by * f .by)
+
+-- at most 23 for each octave and 209 are missing at the high end, which is rounded up
+unfoldable pub scaledLnOf : Scaled → Ends
+scaledLnOf s =
+    let sum : ℕ = s .octave * ln2 + mantissaLnOf (s .mantissa) in
+    record { low = sum / 4096; high = (sum + 23 * s .octave + 4304) / 4096 }
+
+unfoldable pub lnOf : ℕ → ℕ → Ends
+lnOf a b = cond (eqb a b) (record { low = 0; high = 0 }) (scaledLnOf (scaledOf a b))
+
+-- ---- the root of X
+
+-- the root's lower value at fineness 131072 is rootOf X / 131072
+unfoldable pub rootOf : ℕ → ℕ
+rootOf X = wholeRoot (X * (131_072 * 131_072))
