@@ -1,5 +1,5 @@
 -- Bounds of a logarithm that hold at every fineness: they add along a chain, keep when a and b are multiplied or divided by one number,
--- and give what encloses the logarithm.
+-- and give ends that enclose the logarithm.
 use mathlib.Core.Path.{_≡_, ap}
 use Prim.Native.Nat.{ℕ, zero, suc, _+_, _*_, _-_, _≤_, _<_}
 use native.Mathlib.Nat.{le-of-lt, mul-le-mul-right, one-le-mul, sub-add-cancel, sub-self}
@@ -7,43 +7,46 @@ use native.Mathlib.Omega.{arith}
 use borrow.Author.Tests.{le-leb, lt-leb}
 use lib.IntN.{pos}
 use Rattle.exact.specs.Fraction.{Fraction, _over_, _≤q_, _<q_, _+q_, negQ, zeroQ}
-use Rattle.exact.specs.Pair.{Pair, Proper, AboveZero}
+use Rattle.exact.specs.Pair.{Proper, AboveZero}
 use Rattle.exact.specs.Logarithm.{harmonic, lowerSum, upperSum, lnPair}
-use Rattle.exact.specs.Formula.{ln, eval, Defined, Encloses}
+use Rattle.exact.specs.Formula.{ln, eval, Defined, Encloses, units, ends}
 use Rattle.signed.proofs.Whole.{up, down}
 use Rattle.exact.proofs.FractionLaws.{zero-Is, over-Is, le-of, lt-of, ≤q-refl, ≤q-trans, <q-≤q-trans, ≈q-≤q, ≈q-≥q, add-mono, add-more, add-comm-le}
 use Rattle.exact.proofs.PairLaws.{ends-meet}
 use Rattle.exact.proofs.Harmonic.{over-≤, over-add, harmonic-split, harmonic-least, harmonic-more, finer-upper, finer-lower}
 
--- l is at most the logarithm of a/b: at most each upper sum
-pub record LowerBound (l : Fraction) (a b : ℕ) : Type 0 where
-  pub at : (n : ℕ) → 1 ≤ n → l ≤q upperSum n a b
+-- x/S is at most the logarithm of a/b, at most each upper sum; and y/S is at least that, at least each lower sum
+pub record Bounds (S x y a b : ℕ) : Type 0 where
+  pub lower : (n : ℕ) → 1 ≤ n → pos x over S ≤q upperSum n a b
+  pub upper : (n : ℕ) → 1 ≤ n → lowerSum n a b ≤q pos y over S
 
--- h is at least the logarithm of a/b: at least each lower sum
-pub record UpperBound (h : Fraction) (a b : ℕ) : Type 0 where
-  pub at : (n : ℕ) → 1 ≤ n → lowerSum n a b ≤q h
+-- wider bounds, over another denominator
+pub bounds-wider : (S x y : ℕ) {R v w a b : ℕ} → 1 ≤ S → 1 ≤ R → x * R ≤ v * S → w * S ≤ y * R → Bounds R v w a b → Bounds S x y a b
+bounds-wider S x y {v = v} {w} hS hR p q b = record {
+  lower = λ n g. ≤q-trans (over-≤ x v hS hR p) (b .lower n g);
+  upper = λ n g. ≤q-trans (b .upper n g) (over-≤ w y hR hS q);
+}
 
--- ---- weaker bounds, and equal arguments
+-- ---- equal arguments, and a smaller a
 
-pub lower-weaken : {l l' : Fraction} {a b : ℕ} → l' ≤q l → LowerBound l a b → LowerBound l' a b
-lower-weaken h p = record { at = λ n g. ≤q-trans h (p .at n g) }
-
-pub upper-weaken : {h h' : Fraction} {a b : ℕ} → h ≤q h' → UpperBound h a b → UpperBound h' a b
-upper-weaken g p = record { at = λ n k. ≤q-trans (p .at n k) g }
-
--- for a ≥ b the logarithm is at least 0
-pub lower-zero : {a b S : ℕ} → 1 ≤ b → 1 ≤ S → LowerBound (pos 0 over S) a b
+zero-lower : (a b S : ℕ) → 1 ≤ b → 1 ≤ S → (n : ℕ) → 1 ≤ n → pos 0 over S ≤q upperSum n a b
 unfolding upperSum up down
-lower-zero {S = S} hb h = record { at = λ n g. ≤q-trans (le-of (over-Is (pos 0) S h) zero-Is (omega arith)) (harmonic-least _ _ (one-le-mul hb g)) }
+zero-lower a b S hb h n g = ≤q-trans (le-of (over-Is (pos 0) S h) zero-Is (omega arith)) (harmonic-least _ _ (one-le-mul hb g))
 
-pub upper-same : (a : ℕ) {S : ℕ} → 1 ≤ S → UpperBound (pos 0 over S) a a
+pub bounds-same : {a S : ℕ} → 1 ≤ a → 1 ≤ S → Bounds S 0 0 a a
 unfolding lowerSum harmonic up down
-upper-same a {S} h = record { at = λ n g. rw sub-self (le-of zero-Is (over-Is (pos 0) S h) (omega arith)) }
+bounds-same {a} {S} ha h = record {
+  lower = zero-lower a a S ha h;
+  upper = λ n g. rw sub-self (le-of zero-Is (over-Is (pos 0) S h) (omega arith));
+}
 
--- what bounds the logarithm of a'/b bounds that of a/b, for a up to a'
-pub upper-less : {h : Fraction} {a a' b : ℕ} → b ≤ a → a ≤ a' → UpperBound h a' b → UpperBound h a b
+-- for a from b to a', at least 0, and at most what bounds the logarithm of a'/b
+pub bounds-less : {S x y a a' b : ℕ} → 1 ≤ S → 1 ≤ b → b ≤ a → a ≤ a' → Bounds S x y a' b → Bounds S 0 y a b
 unfolding lowerSum
-upper-less {a = a} {a'} {b} p q u = record { at = λ n g. ≤q-trans (rw (two n) (harmonic-more (a * n - b * n) (a' * n - a * n) (suc (b * n)) (omega arith))) (u .at n g) }
+bounds-less {S} {a = a} {a'} {b} hS hb p q u = record {
+  lower = zero-lower a b S hb hS;
+  upper = λ n g. ≤q-trans (rw (two n) (harmonic-more (a * n - b * n) (a' * n - a * n) (suc (b * n)) (omega arith))) (u .upper n g);
+}
   where
     two : (n : ℕ) → a' * n - b * n ≡ (a * n - b * n) + (a' * n - a * n)
     two n = omega (arith, mul-le-mul-right n p, mul-le-mul-right n q)
@@ -66,53 +69,41 @@ module _ (n : ℕ) {a c b : ℕ} (hb : b ≤ c) (ha : c ≤ a) where
 
   lower-chain : lowerSum n a b ≤q lowerSum n a c +q lowerSum n c b
   unfolding lowerSum
-  lower-chain = ≤q-trans (rw two-gaps (rw past-suc at (≈q-≤q (harmonic-split (c * n - b * n) (a * n - c * n) (suc (b * n)))))) (add-comm-le _ _)
+  lower-chain =
+      ≤q-trans (rw two-gaps (rw past-suc at (≈q-≤q (harmonic-split (c * n - b * n) (a * n - c * n) (suc (b * n)))))) (add-comm-le _ _)
 
-pub lower-add : {l l' : Fraction} {a c b : ℕ} → b ≤ c → c ≤ a → LowerBound l a c → LowerBound l' c b → LowerBound (l +q l') a b
-lower-add hb ha p q = record { at = λ n g. ≤q-trans (add-mono (p .at n g) (q .at n g)) (upper-chain n hb ha) }
+pub bounds-plus : (S : ℕ) {x y v w a c b : ℕ} → 1 ≤ S → b ≤ c → c ≤ a → Bounds S x y a c → Bounds S v w c b → Bounds S (x + v) (y + w) a b
+bounds-plus S {x} {y} {v} {w} hS hb ha p q = record {
+  lower = λ n g. ≤q-trans (≈q-≥q (over-add x v hS)) (≤q-trans (add-mono (p .lower n g) (q .lower n g)) (upper-chain n hb ha));
+  upper = λ n g. ≤q-trans (lower-chain n hb ha) (≤q-trans (add-mono (p .upper n g) (q .upper n g)) (≈q-≤q (over-add y w hS)));
+}
 
-pub upper-add : {h h' : Fraction} {a c b : ℕ} → b ≤ c → c ≤ a → UpperBound h a c → UpperBound h' c b → UpperBound (h +q h') a b
-upper-add hb ha p q = record { at = λ n g. ≤q-trans (lower-chain n hb ha) (add-mono (p .at n g) (q .at n g)) }
-
--- the same over one denominator
-module _ (S x y : ℕ) {a c b : ℕ} (hS : 1 ≤ S) (hb : b ≤ c) (ha : c ≤ a) where
-  pub lower-plus : LowerBound (pos x over S) a c → LowerBound (pos y over S) c b → LowerBound (pos (x + y) over S) a b
-  lower-plus p q = lower-weaken (≈q-≥q (over-add x y hS)) (lower-add hb ha p q)
-
-  pub upper-plus : UpperBound (pos x over S) a c → UpperBound (pos y over S) c b → UpperBound (pos (x + y) over S) a b
-  upper-plus p q = upper-weaken (≈q-≤q (over-add x y hS)) (upper-add hb ha p q)
-
--- ---- both arguments times r
+-- ---- both arguments times r, and back
 
 times : (r a n : ℕ) → r * a * n ≡ a * (r * n)
 times r a n = omega arith
 
-module _ (r : ℕ) {a b : ℕ} (hr : 1 ≤ r) where
-  pub lower-times : {l : Fraction} → LowerBound l a b → LowerBound l (r * a) (r * b)
-  unfolding upperSum
-  lower-times p = record { at = λ n g. rw (times r a n, times r b n) (p .at (r * n) (one-le-mul hr g)) }
+pub bounds-times : (r : ℕ) {S x y a b : ℕ} → 1 ≤ r → Bounds S x y a b → Bounds S x y (r * a) (r * b)
+unfolding upperSum lowerSum
+bounds-times r {a = a} {b} hr p = record {
+  lower = λ n g. rw (times r a n, times r b n) (p .lower (r * n) (one-le-mul hr g));
+  upper = λ n g. rw (times r a n, times r b n) (p .upper (r * n) (one-le-mul hr g));
+}
 
-  pub upper-times : {h : Fraction} → UpperBound h a b → UpperBound h (r * a) (r * b)
-  unfolding lowerSum
-  upper-times p = record { at = λ n g. rw (times r a n, times r b n) (p .at (r * n) (one-le-mul hr g)) }
-
-  module _ (hab : b ≤ a) where
+pub bounds-over : (r : ℕ) {S x y a b : ℕ} → 1 ≤ r → 1 ≤ b → b ≤ a → Bounds S x y (r * a) (r * b) → Bounds S x y a b
+unfolding upperSum lowerSum
+bounds-over r {a = a} {b} hr hb hab p = record {
+  lower = λ n g. ≤q-trans (p .lower n g) (rw (gap n, start n) (finer-upper r (a * n - b * n) (b * n) hr (one-le-mul hb g)));
+  upper = λ n g. ≤q-trans (rw (gap n, start n) (finer-lower r (a * n - b * n) (b * n) hr)) (p .upper n g);
+}
+  where
     gap : (n : ℕ) → r * a * n - r * b * n ≡ (a * n - b * n) * r
-    gap n = go (a * n - b * n) (sub-add-cancel (mul-le-mul-right n hab))
-      where
-        go : (d : ℕ) → d + b * n ≡ a * n → r * a * n - r * b * n ≡ d * r
-        go d e = omega (arith, ap (λ (x : ℕ). x * r) e)
+    gap n =
+        let e : a * n - b * n + b * n ≡ a * n = sub-add-cancel (mul-le-mul-right n hab) in
+        omega (arith, ap (λ (x : ℕ). x * r) e)
 
     start : (n : ℕ) → r * b * n ≡ b * n * r
     start n = omega arith
-
-    pub lower-over : {l : Fraction} → 1 ≤ b → LowerBound l (r * a) (r * b) → LowerBound l a b
-    unfolding upperSum
-    lower-over hb p = record { at = λ n g. ≤q-trans (p .at n g) (rw (gap n, start n) (finer-upper r (a * n - b * n) (b * n) hr (one-le-mul hb g))) }
-
-    pub upper-over : {h : Fraction} → UpperBound h (r * a) (r * b) → UpperBound h a b
-    unfolding lowerSum
-    upper-over p = record { at = λ n g. ≤q-trans (rw (gap n, start n) (finer-lower r (a * n - b * n) (b * n) hr)) (p .at n g) }
 
 -- ---- the pair of a logarithm
 
@@ -137,11 +128,13 @@ module _ {a b : ℕ} (hb : 1 ≤ b) (hab : b ≤ a) where
   unfolding lowerSum upperSum
   ln-proper n g = rw (ordered-pair n) (record { ordered = harmonic-later (a * n - b * n) (b * n) (one-le-mul hb g) })
 
-  pub encloses-ln : {P : Pair} → Proper P → LowerBound (P .low) a b → UpperBound (P .high) a b → Encloses P (ln a b)
-  unfolding eval Defined
-  encloses-ln {P} p l h = record {
+  pub encloses-ln : {l h : ℕ} → l ≤ h → Bounds 1_000_000_000 l h a b → Encloses (ends (pos l) (pos h)) (ln a b)
+  unfolding eval Defined ends units
+  encloses-ln {l} {h} o p = record {
     defined = λ n g. tt;
-    meets = λ n g. ends-meet p (ln-proper n g) (rw (ordered-pair n) (l .at n g)) (rw (ordered-pair n) (h .at n g));
+    meets = λ n g.
+        ends-meet (record { ordered = over-≤ l h (omega arith) (omega arith) (omega arith) }) (ln-proper n g)
+        (rw (ordered-pair n) (p .lower n g)) (rw (ordered-pair n) (p .upper n g));
   }
 
 pub ln-above : {a b : ℕ} → 1 ≤ b → b < a → (n : ℕ) → 1 ≤ n → AboveZero (lnPair n a b)

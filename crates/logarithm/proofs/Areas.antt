@@ -1,7 +1,8 @@
--- The midpoint value is at most the logarithm of p/q, and the trapezoid value at least.
+-- The midpoint value is at most the logarithm of p/q, and the trapezoid value at least, at every fineness.
 use mathlib.Core.Path.{_≡_, refl, ap, subst}
 use Prim.Native.Nat.{ℕ, zero, suc, _+_, _*_, _-_, _≤_, _<_}
-use native.Mathlib.Nat.{one-le-mul, sub-add-cancel}
+use native.Mathlib.Nat.{mul-le-mul-left, mul-le-mul-right, one-le-mul, sub-add-cancel}
+use native.Mathlib.Numerals.{one-add}
 use native.Mathlib.Decide.{decLe}
 use native.Mathlib.Omega.{arith}
 use lib.IntN.{pos}
@@ -9,7 +10,7 @@ use Rattle.exact.specs.Fraction.{_over_, _≤q_}
 use Rattle.exact.specs.Logarithm.{harmonic, lowerSum, upperSum}
 use Rattle.exact.proofs.FractionLaws.{≤q-trans}
 use Rattle.exact.proofs.Harmonic.{over-≤, weights, weights-below, weights-above, weights-down}
-use Rattle.exact.proofs.LogarithmLaws.{LowerBound, UpperBound}
+use Rattle.exact.proofs.LogarithmLaws.{Bounds, bounds-less, bounds-times}
 
 weights-four : (w : ℕ → ℕ) (c k : ℕ) → weights (λ (j : ℕ). 4 * w j) c k ≡ 4 * weights w c k
 weights-four w zero k = refl
@@ -69,11 +70,18 @@ module _ (e q : ℕ) (hq : 1 ≤ q) where
       enough : (w : ℕ) → 2 * w + 2 * (e * n * suc (q * n)) + e * n * (e * n) ≡ 2 * (e * n * s e q n) + e * n → w * (2 * ((e + q) * q)) ≤ e * (e + q + q) * ((e + q) * n * (q * n))
       enough w g = omega (arith, ap (λ (z : ℕ). z * ((e + q) * q)) g)
 
-module _ {p q : ℕ} (hq : 1 ≤ q) (h : q ≤ p) where
-  pub midpoint : LowerBound (pos (2 * (p - q)) over (p + q)) p q
-  unfolding upperSum
-  midpoint = subst (λ (x : ℕ). LowerBound (pos (2 * (p - q)) over (x + q)) x q) (sub-add-cancel h) record { at = λ n g. rw (terms (p - q) q n) (mid-at (p - q) q hq n g) }
+-- bounds over S from the midpoint value, 2 e / (p + q), and the trapezoid value, e (p + q) / (2 p q), of p = e + q
+pub areas : (S x y e q : ℕ) → 1 ≤ S → 1 ≤ q → x * (e + q + q) ≤ 2 * e * S → e * (e + q + q) * S ≤ y * (2 * ((e + q) * q)) → Bounds S x y (e + q) q
+unfolding upperSum lowerSum
+areas S x y e q hS hq l h = record {
+  lower = λ n g. ≤q-trans (over-≤ x (2 * e) hS (omega arith) l) (rw (terms e q n) (mid-at e q hq n g));
+  upper = λ n g.
+      ≤q-trans (rw (terms e q n) (trap-at e q hq n g))
+      (over-≤ (e * (e + q + q)) y (one-le-mul {a = 2} (omega arith) (one-le-mul {a = e + q} (omega arith) hq)) hS h);
+}
 
-  pub trapezoid : UpperBound (pos ((p - q) * (p + q)) over (2 * (p * q))) p q
-  unfolding lowerSum
-  trapezoid = subst (λ (x : ℕ). UpperBound (pos ((p - q) * (x + q)) over (2 * (x * q))) x q) (sub-add-cancel h) record { at = λ n g. rw (terms (p - q) q n) (trap-at (p - q) q hq n g) }
+-- what is rounded down to q, in units of r, has a logarithm at most 1/q above that of q
+pub bounds-rounded : (S z r q a : ℕ) → 1 ≤ S → 1 ≤ r → 1 ≤ q → S ≤ z * q → r * q ≤ a → a ≤ r * suc q → Bounds S 0 z a (r * q)
+bounds-rounded S z r q a hS hr hq g l h =
+    bounds-less hS (one-le-mul hr hq) l h
+    (bounds-times r hr (rw one-add at (areas S 0 z 1 q hS hq (omega arith) (omega (arith, mul-le-mul-right (1 + q + q) g, mul-le-mul-left z hq)))))

@@ -7,3 +7,4 @@ pub mod Octave
 pub mod Newton
 pub mod Remainder
 pub mod Sum
+pub mod Laws

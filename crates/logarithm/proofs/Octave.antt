@@ -51,8 +51,8 @@ quotient-zeros d = aligned _ (quotient-least d) (quotient-small d) .few
 -- s is a/b, rounded down
 pub record Scales (a b : ℕ) (s : Scaled) : Type 0 where
   pub normal : Normal s
-  pub low : s .mantissa * (b * 2 ^ s .octave) ≤ a * 2 ^ 35
-  pub high : a * 2 ^ 35 ≤ suc (s .mantissa) * (b * 2 ^ s .octave)
+  pub low : b * 2 ^ s .octave * s .mantissa ≤ 2 ^ 35 * a
+  pub high : 2 ^ 35 * a ≤ b * 2 ^ s .octave * suc (s .mantissa)
 
 pub scales : {a b : ℕ} → LnDomain a b → Scales a b (scaledOf a b)
 unfolding scaledOf
@@ -65,10 +65,10 @@ scales {a} {b} d =
         let l : 2 ^ 35 < suc y = lt-of-mul-lt-mul-right K {m = 2 ^ 35} {n = suc y} (omega arith) in
         (omega arith, lt-of-mul-lt-mul-right K {m = y} {n = 2 ^ 36} (omega arith))
 
-    less : (x y K : ℕ) → y * K ≤ x → x * b ≤ a * 2 ^ 35 → y * (b * K) ≤ a * 2 ^ 35
+    less : (x y K : ℕ) → y * K ≤ x → x * b ≤ a * 2 ^ 35 → b * K * y ≤ 2 ^ 35 * a
     less x y K p q = omega (arith, mul-le-mul-right b p)
 
-    more : (x y K : ℕ) → x < y * K + K → a * 2 ^ 35 < x * b + b → a * 2 ^ 35 ≤ suc y * (b * K)
+    more : (x y K : ℕ) → x < y * K + K → a * 2 ^ 35 < x * b + b → 2 ^ 35 * a ≤ b * K * suc y
     more x y K p q = omega (arith, mul-le-mul-right b p)
 
     go : (x k : ℕ) → k ≤ 28 → 2 ^ k * 2 ^ 35 ≤ x → x < 2 ^ k * 2 ^ 36 → x * b ≤ a * 2 ^ 35 → a * 2 ^ 35 < x * b + b → Scales a b (record { octave = k; mantissa = x / 2 ^ k })

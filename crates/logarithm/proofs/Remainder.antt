@@ -1,15 +1,12 @@
--- What is left of the mantissa after both factors: p/2^61 is 1 + d/2^41, d rounded down. Its logarithm is at least d − d²/2 by the
--- midpoint value of d, and at most 64 units of 1/U more by the trapezoid value of d + 1.
+-- What is left of the mantissa after both factors: p/2^61 is 1 + d/2^41, d rounded down. Its logarithm is at least d − d²/2, by the
+-- midpoint value, and at most 64 units of 1/U more, by the trapezoid value and what was rounded off.
 use mathlib.Core.Path.{_≡_, refl, ap}
 use Prim.Native.Nat.{ℕ, suc, _+_, _*_, _-_, _/_, _^_, _≤_, _<_}
-use native.Mathlib.Nat.{mul-le-mul, mul-le-mul-right, le-of-mul-le-mul-right, one-le-mul, zero-add}
+use native.Mathlib.Nat.{mul-le-mul, mul-le-mul-right, le-of-mul-le-mul-right}
 use native.Mathlib.Omega.{arith}
-use lib.IntN.{pos}
-use Rattle.exact.specs.Fraction.{_over_}
-use Rattle.exact.proofs.Harmonic.{over-≤}
-use Rattle.exact.proofs.LogarithmLaws.{LowerBound, UpperBound, lower-zero, lower-weaken, upper-weaken, lower-plus, lower-times, upper-times, upper-less}
+use Rattle.exact.proofs.LogarithmLaws.{Bounds, bounds-wider, bounds-plus, bounds-times}
 use Rattle.logarithm.specs.Evaluation.{NearOne, nearOneOf}
-use Rattle.logarithm.proofs.Areas.{midpoint, trapezoid}
+use Rattle.logarithm.proofs.Areas.{areas, bounds-rounded}
 use Rattle.logarithm.proofs.Walk.{U}
 
 -- t is half the square of d, rounded up
@@ -29,80 +26,53 @@ halved d h = go (d * d) refl (mul-le-mul h h) (mul-le-mul-right d h)
 product : (d t : ℕ) → d ≤ 671_088_639 → d * d ≤ 450_359_961_394_872_321 → t * 2 ^ 42 ≤ d * d + 2 ^ 42 → t * d ≤ 102_401 * 671_088_639
 product d t p q r = mul-le-mul {n₁ = t} {n₂ = 102_401} (omega arith) p
 
--- the trapezoid value of d + 1, over d − t
-chord-most : (h d t : ℕ) → h + t ≡ d → t * 2 ^ 42 ≤ d * d + 2 ^ 42 → t * d ≤ 102_401 * 671_088_639 →
-    suc d * (2 ^ 42 + suc d) ≤ (2 * h + 67) * (2 ^ 41 + suc d)
+-- ---- h is d − t, and m the same in units of 1/U
+
+least : (h m : ℕ) {d t : ℕ} → Halved d t → h + t ≡ d → m * 2 ^ 29 ≤ h * 1_000_000_000 → m * (d + 2 ^ 41 + 2 ^ 41) ≤ 2 * d * U
+least h m {d} {t} w e g =
+    let c : h * d ≤ d * d = mul-le-mul-right d (omega arith) in
+    let f : h * (d + 2 ^ 42) ≤ d * 2 ^ 42 = omega (arith, w .below) in
+    le-of-mul-le-mul-right {k = 2 ^ 29} (omega (arith, mul-le-mul-right (d + 2 ^ 42) g)) (omega arith)
+
+-- the trapezoid value of d is at most 65/2 above h
+chord-most : (h d t : ℕ) → h + t ≡ d → t * 2 ^ 42 ≤ d * d + 2 ^ 42 → t * d ≤ 102_401 * 671_088_639 → d * (d + 2 ^ 42) ≤ (2 * h + 65) * (d + 2 ^ 41)
 chord-most h d t e p q = rw (← e) (omega (arith, rw (← e) at p, rw (← e) at q))
 
-scaled-most : (A Z h m : ℕ) → A ≤ (2 * h + 67) * Z → h * 1_000_000_000 ≤ m * 2 ^ 29 + 2 ^ 29 → A * U ≤ (m + 64) * (2 * (Z * 2 ^ 41))
+scaled-most : (A Z h m : ℕ) → A ≤ (2 * h + 65) * Z → h * 1_000_000_000 ≤ m * 2 ^ 29 + 2 ^ 29 → A * U ≤ (m + 62) * (2 * (Z * 2 ^ 41))
 scaled-most A Z h m p g =
-    let f : (2 * h + 67) * 1_000_000_000 ≤ (m + 64) * 2 ^ 30 = omega arith in
+    let f : (2 * h + 65) * 1_000_000_000 ≤ (m + 62) * 2 ^ 30 = omega arith in
     omega (arith, mul-le-mul-right Z f, mul-le-mul-right 1_000_000_000 p)
 
--- m is d − t, in units of 1/U
-module _ {d t : ℕ} (w : Halved d t) (m : ℕ) where
-  least : (h : ℕ) → h + t ≡ d → m * 2 ^ 29 ≤ h * 1_000_000_000 → m * (2 ^ 42 + d) ≤ 2 * d * U
-  least h e g =
-      let c : h * d ≤ d * d = mul-le-mul-right d (omega arith) in
-      let f : h * (2 ^ 42 + d) ≤ d * 2 ^ 42 = omega (arith, w .below) in
-      le-of-mul-le-mul-right {k = 2 ^ 29} (omega (arith, mul-le-mul-right (2 ^ 42 + d) g)) (omega arith)
+most : (h m : ℕ) {d t : ℕ} → Halved d t → h + t ≡ d → h * 1_000_000_000 ≤ m * 2 ^ 29 + 2 ^ 29 →
+    d * (d + 2 ^ 41 + 2 ^ 41) * U ≤ (m + 62) * (2 * ((d + 2 ^ 41) * 2 ^ 41))
+most h m {d} {t} w e g =
+    rw whole (scaled-most (d * (d + 2 ^ 42)) (d + 2 ^ 41) h m (chord-most h d t e (w .above) (product d t (w .small) (w .square) (w .above))) g)
+  where
+    whole : d + 2 ^ 41 + 2 ^ 41 ≡ d + 2 ^ 42
+    whole = omega arith
 
-  most : (h : ℕ) → h + t ≡ d → h * 1_000_000_000 ≤ m * 2 ^ 29 + 2 ^ 29 →
-      suc d * (2 ^ 42 + suc d) * U ≤ (m + 64) * (2 * ((2 ^ 41 + suc d) * 2 ^ 41))
-  most h e g = scaled-most (suc d * (2 ^ 42 + suc d)) (2 ^ 41 + suc d) h m (chord-most h d t e (w .above) (product d t (w .small) (w .square) (w .above))) g
-
-  -- ln(1 + d/2^41) is at least m, and ln(1 + (d + 1)/2^41) at most m + 64
-  low-end : (h : ℕ) → h + t ≡ d → m * 2 ^ 29 ≤ h * 1_000_000_000 → LowerBound (pos m over U) (2 ^ 41 + d) (2 ^ 41)
-  low-end h e g =
-      lower-weaken (over-≤ m (2 * (2 ^ 41 + d - 2 ^ 41)) (omega arith) (omega arith) (rw gap (rw total (least h e g))))
-      (midpoint {p = 2 ^ 41 + d} {q = 2 ^ 41} (omega arith) (omega arith))
-    where
-      gap : 2 ^ 41 + d - 2 ^ 41 ≡ d
-      gap = omega arith
-
-      total : 2 ^ 41 + d + 2 ^ 41 ≡ 2 ^ 42 + d
-      total = omega arith
-
-  high-end : (h : ℕ) → h + t ≡ d → h * 1_000_000_000 ≤ m * 2 ^ 29 + 2 ^ 29 → UpperBound (pos (m + 64) over U) (2 ^ 41 + suc d) (2 ^ 41)
-  high-end h e g =
-      upper-weaken (over-≤ _ (m + 64) (one-le-mul {a = 2} (omega arith) (one-le-mul {a = 2 ^ 41 + suc d} {b = 2 ^ 41} (omega arith) (omega arith))) (omega arith) (rw (gap, total) (most h e g)))
-      (trapezoid {p = 2 ^ 41 + suc d} {q = 2 ^ 41} (omega arith) (omega arith))
-    where
-      gap : 2 ^ 41 + suc d - 2 ^ 41 ≡ suc d
-      gap = omega arith
-
-      total : 2 ^ 41 + suc d + 2 ^ 41 ≡ 2 ^ 42 + suc d
-      total = omega arith
-
--- ---- p, with all digits
+-- ---- p, from 2^20 (d + 2^41) to below 2^20 (d + 1 + 2^41)
 
 pub distance : {p : ℕ} → NearOne p → (p - 2 ^ 61) / 2 ^ 20 ≤ 671_088_639
 distance n = omega (arith, n .least, n .most)
 
-pub near-lower : {p : ℕ} → NearOne p → LowerBound (pos (nearOneOf p) over U) p (2 ^ 61)
+pub near-one : {p : ℕ} → NearOne p → Bounds U (nearOneOf p) (nearOneOf p + 64) p (2 ^ 61)
 unfolding nearOneOf
-near-lower {p} n = go ((p - 2 ^ 61) / 2 ^ 20) (distance n) (omega (arith, n .least))
+near-one {p} n = go ((p - 2 ^ 61) / 2 ^ 20) (distance n) (omega (arith, n .least)) (omega (arith, n .least))
   where
-    go : (d : ℕ) → d ≤ 671_088_639 → 2 ^ 20 * (2 ^ 41 + d) ≤ p → LowerBound (pos ((d - (d * d + (2 ^ 42 - 1)) / 2 ^ 42) * 1_000_000_000 / 2 ^ 29) over U) p (2 ^ 61)
-    go d h g =
+    go : (d : ℕ) → d ≤ 671_088_639 → 2 ^ 20 * (d + 2 ^ 41) ≤ p → p ≤ 2 ^ 20 * suc (d + 2 ^ 41) →
+        let m : ℕ = (d - (d * d + (2 ^ 42 - 1)) / 2 ^ 42) * 1_000_000_000 / 2 ^ 29 in Bounds U m (m + 64) p (2 ^ 61)
+    go d h l g =
         let w = halved d h in
         let t : ℕ = (d * d + (2 ^ 42 - 1)) / 2 ^ 42 in
         let m : ℕ = (d - t) * 1_000_000_000 / 2 ^ 29 in
-        rw zero-add at (lower-plus U 0 m {a = p} {c = 2 ^ 20 * (2 ^ 41 + d)} {b = 2 ^ 61} (omega arith) (omega arith) g (lower-zero (omega arith) (omega arith))
-        (lower-times (2 ^ 20) {a = 2 ^ 41 + d} {b = 2 ^ 41} (omega arith) (low-end w m (d - t) (omega (arith, w .less)) (omega arith))))
+        let e : d - t + t ≡ d = omega (arith, w .less) in
+        bounds-wider U m (m + 64) (omega arith) (omega arith) (omega arith) (omega arith)
+        (bounds-plus U {v = m} {w = m + 62} {b = 2 ^ 61} (omega arith) (omega arith) l (bounds-rounded U 2 (2 ^ 20) (d + 2 ^ 41) p (omega arith) (omega arith) (omega arith) (omega arith) l g)
+        (bounds-times (2 ^ 20) (omega arith)
+        (areas U m (m + 62) d (2 ^ 41) (omega arith) (omega arith) (least (d - t) m w e (omega arith)) (most (d - t) m w e (omega arith)))))
 
-pub near-upper : {p : ℕ} → NearOne p → UpperBound (pos (nearOneOf p + 64) over U) p (2 ^ 61)
-unfolding nearOneOf
-near-upper {p} n = go ((p - 2 ^ 61) / 2 ^ 20) (distance n) (omega (arith, n .least))
-  where
-    go : (d : ℕ) → d ≤ 671_088_639 → p ≤ 2 ^ 20 * (2 ^ 41 + suc d) → UpperBound (pos ((d - (d * d + (2 ^ 42 - 1)) / 2 ^ 42) * 1_000_000_000 / 2 ^ 29 + 64) over U) p (2 ^ 61)
-    go d h g =
-        let w = halved d h in
-        let t : ℕ = (d * d + (2 ^ 42 - 1)) / 2 ^ 42 in
-        let m : ℕ = (d - t) * 1_000_000_000 / 2 ^ 29 in
-        upper-less (n .least) g (upper-times (2 ^ 20) {a = 2 ^ 41 + suc d} {b = 2 ^ 41} (omega arith) (high-end w m (d - t) (omega (arith, w .less)) (omega arith)))
-
--- the sizes that the code rests on
+-- the size that the code rests on
 pub near-small : {p : ℕ} → NearOne p → nearOneOf p ≤ 1_250_000_000
 unfolding nearOneOf
 near-small {p} n = omega (arith, distance n)

@@ -1,26 +1,27 @@
+-- `ln` meets its contract.
+use mathlib.Core.Path.{_∙_, ap}
 use borrow.Author.Needs.{needs}
+use borrow.Author.Tests.{eq-eqb, ne-eqb}
+use Rattle.logarithm.specs.Evaluation.{scaledLnOf, lnOf}
+use Rattle.logarithm.proofs.Octave.{scales}
 use Rattle.logarithm.proofs.ln.Statement.{statement}
 use Rattle.logarithm.proofs.ln.Tie as tie
-use Rattle.logarithm.proofs.ln.Reads as reads
-use Rattle.logarithm.proofs.ln.Lts as lts
-use Rattle.logarithm.proofs.ends_of.Reads as ends-of-reads
-use Rattle.logarithm.proofs.scale.Reads as scale-reads
 
--- src/lib.rt:66:9
 returns : tie.Need-returns
-returns c = ?
+unfolding lnOf
+returns c = simp (eq-eqb _ _ (c .if1 .taken))
 
--- src/lib.rt:68:13
 scale-requires : tie.Need-scale-requires
 scale-requires c κs = search needs
 
--- src/lib.rt:68:5
-ends-of-requires : tie.Need-ends-of-requires
-ends-of-requires c κs = ?
+scaled-ln-requires : tie.Need-scaled-ln-requires
+scaled-ln-requires c κs = rw (c .scale .ensures) (scales (c .before .before .pre) .normal)
 
--- src/lib.rt:61:1
 returns-2 : tie.Need-returns-2
-returns-2 c = ?
+unfolding lnOf
+returns-2 c =
+    let s = c .before in
+    simp (ne-eqb _ _ (s .before .if1 .left)) (c .scaled-ln .ensures ∙ ap scaledLnOf (s .scale .ensures))
 
 pub ln-spec : {M : Type 1} → statement M
-ln-spec = tie.close (tie.spec returns scale-requires ends-of-requires returns-2)
+ln-spec = tie.close (tie.spec returns scale-requires scaled-ln-requires returns-2)

@@ -1,51 +1,57 @@
+-- `mantissa_ln` meets its contract: its factors are the tables' entries, which bring y near 2^47, and then near 2^61.
+use Prim.Native.Nat.{_*_}
+use native.Mathlib.Omega.{arith}
 use borrow.Author.Needs.{needs}
+use Rattle.logarithm.specs.Evaluation.{mantissaLnOf}
+use Rattle.logarithm.proofs.Factors.{Coarse, Fine, coarse-at, fine-at}
+use Rattle.logarithm.proofs.Remainder.{near-small}
 use Rattle.logarithm.proofs.mantissa_ln.Statement.{statement}
 use Rattle.logarithm.proofs.mantissa_ln.Tie as tie
-use Rattle.logarithm.proofs.mantissa_ln.Reads as reads
-use Rattle.logarithm.proofs.mantissa_ln.Lts as lts
-use Rattle.logarithm.proofs.near_one.Reads as near-one-reads
-use Rattle.logarithm.proofs.table.coarse.Reads as coarse-reads
-use Rattle.logarithm.proofs.table.fine.Reads as fine-reads
 
--- src/lib.rt:49:32
+coarse-known : (c : tie.After-coarse) → Coarse (c .before .args .y) (c .coarse .result)
+coarse-known c = rw (c .coarse .ensures) (coarse-at _ (c .before .pre .least) (c .before .pre .most))
+
+fine-known : (c : tie.After-fine) → Fine (c .before .before .before .args .y * c .before .before .coarse .result .by) (c .fine .result)
+fine-known c = let k = coarse-known (c .before .before) in rw (c .fine .ensures) (fine-at _ (k .least) (k .most))
+
 sub-coarse : tie.Need-sub-coarse
 sub-coarse c = search needs
 
--- src/lib.rt:49:9
 coarse-requires : tie.Need-coarse-requires
 coarse-requires c κs = search needs
 
--- src/lib.rt:50:18
 mul-nearer : tie.Need-mul-nearer
-mul-nearer c = ?
+mul-nearer c = omega (arith, coarse-known (c .before) .most)
 
--- src/lib.rt:51:28
 sub-fine : tie.Need-sub-fine
-sub-fine c = ?
+sub-fine c = omega (arith, coarse-known (c .before) .least)
 
--- src/lib.rt:51:9
 fine-requires : tie.Need-fine-requires
 fine-requires c κs = search needs
 
--- src/lib.rt:52:25
 mul-near-one : tie.Need-mul-near-one
-mul-near-one c = ?
+mul-near-one c = omega (arith, fine-known (c .before) .near .most)
 
--- src/lib.rt:52:9
 near-one-requires : tie.Need-near-one-requires
-near-one-requires c κs = ?
+near-one-requires c κs = fine-known (c .before) .near
 
--- src/lib.rt:53:5
 add-result : tie.Need-add-result
-add-result c = ?
+add-result c =
+    let f = c .before .before .before .before in
+    omega (arith, coarse-known (f .before .before) .small, fine-known f .small)
 
--- src/lib.rt:53:5
 add-result-2 : tie.Need-add-result-2
-add-result-2 c = ?
+add-result-2 c =
+    let n = c .before .before in
+    let f = n .before .before in
+    rw (n .near-one .ensures) (omega (arith, coarse-known (f .before .before) .small, fine-known f .small, near-small (fine-known f .near)))
 
--- src/lib.rt:45:1
 returns : tie.Need-returns
-returns c = ?
+unfolding mantissaLnOf
+returns c =
+    let n = c .before .before in
+    let f = n .before .before in
+    rw (n .near-one .ensures, f .fine .ensures, f .before .before .coarse .ensures)
 
 pub mantissa-ln-spec : {M : Type 1} → statement M
 mantissa-ln-spec =

@@ -1,37 +1,36 @@
+-- `scaled_ln` meets its contract.
+use native.Mathlib.Omega.{arith}
 use borrow.Author.Needs.{needs}
+use Prim.Native.Nat.{_≤_}
+use Rattle.logarithm.specs.Evaluation.{scaledLnOf}
+use Rattle.logarithm.proofs.Sum.{mantissa-ln}
 use Rattle.logarithm.proofs.scaled_ln.Statement.{statement}
 use Rattle.logarithm.proofs.scaled_ln.Tie as tie
-use Rattle.logarithm.proofs.scaled_ln.Reads as reads
-use Rattle.logarithm.proofs.scaled_ln.Lts as lts
-use Rattle.logarithm.proofs.mantissa_ln.Reads as mantissa-ln-reads
 
--- src/lib.rt:61:15
+small : (c : tie.After-mantissa-ln) → c .mantissa-ln .result ≤ 5_680_000_000_000
+small c = rw (c .mantissa-ln .ensures) (mantissa-ln (c .before .before .pre .mantissa) .small)
+
 mul-sum : tie.Need-mul-sum
 mul-sum c = search needs
 
--- src/lib.rt:61:40
 mantissa-ln-requires : tie.Need-mantissa-ln-requires
 mantissa-ln-requires c κs = search needs
 
--- src/lib.rt:61:15
 add-sum : tie.Need-add-sum
-add-sum c = ?
+add-sum c = omega (arith, small c)
 
--- src/lib.rt:64:22
 mul-t4 : tie.Need-mul-t4
 mul-t4 c = search needs
 
--- src/lib.rt:64:16
 add-t5 : tie.Need-add-t5
-add-t5 c = ?
+add-t5 c = omega (arith, small (c .before))
 
--- src/lib.rt:64:16
 add-t6 : tie.Need-add-t6
-add-t6 c = ?
+add-t6 c = omega (arith, small (c .before))
 
--- src/lib.rt:57:1
 returns : tie.Need-returns
-returns c = ?
+unfolding scaledLnOf
+returns c = rw (c .before .mantissa-ln .ensures)
 
 pub scaled-ln-spec : {M : Type 1} → statement M
 scaled-ln-spec =
