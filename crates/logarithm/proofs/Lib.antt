@@ -8,3 +8,4 @@ pub mod Newton
 pub mod Remainder
 pub mod Sum
 pub mod Laws
+pub mod Enclosure
