@@ -18,7 +18,8 @@ use Rattle.exact.proofs.FractionLaws.{≤q-refl, neg-anti}
 use Rattle.exact.proofs.LogarithmLaws.{ln-proper, ln-flipped}
 use Rattle.exact.proofs.Points.{Points, value, Picked, Sound, encloses-by}
 use Rattle.logarithm.specs.Evaluation.{LnDomain, lnOf, rootOf}
-use Rattle.logarithm.proofs.Laws.{lnOf-encloses, rootOf-encloses}
+use Rattle.logarithm.specs.Promise.{rootFineness}
+use Rattle.logarithm.proofs.Laws.{lnOf-promise, rootOf-promise}
 
 -- the engine's ends of a logarithm
 abbrev pub lnEnds : ℕ → ℕ → Pair
@@ -28,7 +29,7 @@ lnEnds a b = ends (pos (lnOf a b .low)) (pos (lnOf a b .high))
 pub record Known (σ : Points) : Type 0 where
   pub ln-within : {a b : ℕ} → LnDomain a b → σ .lnAt a b ∈ lnEnds a b
   pub ln-negated : {a b : ℕ} → a < b → σ .lnAt a b ≡ negQ (σ .lnAt b a)
-  pub root-within : (X : ℕ) → σ .rootAt X ∈ stepOf 131_072 (rootOf X)
+  pub root-within : (X : ℕ) → σ .rootAt X ∈ stepOf rootFineness (rootOf X)
 
 -- ---- at fineness n such points are found
 
@@ -44,7 +45,7 @@ choice n a b g = go (decLe 1 b) (decLe b a) (decLt a (2 ^ 29))
   where
     go : Dec (1 ≤ b) → Dec (b ≤ a) → Dec (a < 2 ^ 29) → Choice n a b
     go (yes p) (yes q) (yes r) =
-        let m = lnOf-encloses (record { some = p; order = q; small = r }) .meets n g in
+        let m = lnOf-promise (record { some = p; order = q; small = r }) .encloses .meets n g in
         record { point = m .point; exact = λ _ _. m .right; within = λ _. m .left }
     go (yes p) (yes q) (no r) = record {
       point = lnPair n a b .low;
@@ -58,7 +59,7 @@ module _ (n : ℕ) (g : 1 ≤ n) where
   abbrev points : Points
   points = record {
     lnAt = λ a b. cond (leb b a) (choice n a b g .point) (negQ (choice n b a g .point));
-    rootAt = λ X. rootOf-encloses X .meets n g .point;
+    rootAt = λ X. rootOf-promise X .encloses .meets n g .point;
   }
 
   -- b ≤ a
@@ -72,14 +73,14 @@ module _ (n : ℕ) (g : 1 ≤ n) where
   known = record {
     ln-within = λ {a} {b} d. rw (ordered (d .order)) (choice n a b g .within d);
     ln-negated = λ {a} {b} h. rw (turned h, ordered (le-of-lt h)) refl;
-    root-within = λ X. rootOf-encloses X .meets n g .left;
+    root-within = λ X. rootOf-promise X .encloses .meets n g .left;
   }
 
   picked : Picked n points
   unfolding eval
   picked = record {
     lnIn = λ a b ha hb. elim (decLe b a) [ yes h ↦ rw (ordered h) (choice n a b g .exact hb h) | no h ↦ below a b ha (omega arith) ];
-    rootIn = λ X. rootOf-encloses X .meets n g .right;
+    rootIn = λ X. rootOf-promise X .encloses .meets n g .right;
   }
     where
       below : (a b : ℕ) → 1 ≤ a → a < b → points .lnAt a b ∈ lnPair n a b

@@ -1,0 +1,43 @@
+-- The values that document 01, 'Values to try', marks P: one table, and what it is that a row of it holds.
+use mathlib.Core.Path.{_≡_}
+use mathlib.Core.List.{List, [], _∷_}
+use Prim.Native.Nat.{ℕ, _≤_, _<_}
+use lib.IntN.{pos}
+use lib.ListN.{length, getD}
+use Rattle.exact.specs.Fraction.{Fraction, _over_, zeroQ, _≈q_}
+use Rattle.exact.specs.Pair.{Pair}
+use Rattle.exact.specs.Formula.{Formula, ln, root, eval}
+
+pub data Check : Type 0 where
+  -- pairs: the pair of a formula at fineness n has these two ends
+  pairAt : ℕ → Formula → Fraction → Fraction → Check
+  -- and the pair of ln(a/b) has them at every fineness
+  lnAtEvery : ℕ → ℕ → Fraction → Fraction → Check
+  -- fractions: what is worked out has this value
+  fraction : Fraction → Fraction → Check
+  -- records: the fields that are read, in their order, have these values
+  fields : List ℕ → List ℕ → Check
+
+pub record HasEnds (P : Pair) (x y : Fraction) : Type 0 where
+  pub low : P .low ≈q x
+  pub high : P .high ≈q y
+
+unfoldable pub Holds : Check → Type 0
+Holds (pairAt n e x y) = HasEnds (eval n e) x y
+Holds (lnAtEvery a b x y) = (n : ℕ) → 1 ≤ n → HasEnds (eval n (ln a b)) x y
+Holds (fraction x y) = x ≈q y
+Holds (fields xs ys) = xs ≡ ys
+
+abbrev pub values : List Check
+values =
+    -- "ln 3 at n = 1 has 5/6 and 3/2; ln 2 at n = 2 has 7/12 and 5/6; ln(7/7) has 0 and 0"
+    pairAt 1 (ln 3 1) (pos 5 over 6) (pos 3 over 2) ∷
+    pairAt 2 (ln 2 1) (pos 7 over 12) (pos 5 over 6) ∷
+    lnAtEvery 7 7 (pos 0 over 1) (pos 0 over 1) ∷
+    -- "the root of 18225 at n = 1 has 135 and 136"
+    pairAt 1 (root 18_225) (pos 135 over 1) (pos 136 over 1) ∷
+    []
+
+-- the shared statement: every row holds
+unfoldable pub AllHold : Type 0
+AllHold = (k : ℕ) → k < length values → Holds (getD values k (fraction zeroQ zeroQ))
