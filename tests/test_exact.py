@@ -5,8 +5,8 @@ import unittest
 from fractions import Fraction
 
 from exact import (Pair, add, branch_up_to, div, ln_pair, meets, mul,
-                   negative, reciprocal_sum, root_pair, stated, sub, true_ln,
-                   true_root)
+                   negative, reciprocal_sum, root_pair, series_ends, stated,
+                   sub, true_ln, true_root)
 
 # The first digits of two logarithms, from printed tables.
 LN_2 = '0.69314718055994530941723212145817656807550013436025'
@@ -297,6 +297,16 @@ class TrueLnTest(unittest.TestCase):
                     p = true_ln(a, b, digits)
                     self.assertLessEqual(p.low, p.high)
                     self.assertLess(width(p), Fraction(1, 10 ** digits))
+
+    def test_coarse_series(self):
+        """The series encloses also with few binary places."""
+        for bits in range(16):
+            for q in range(3, 40):
+                for p in range(q // 3 + 1):
+                    low, high = series_ends(p, q, bits)
+                    coarse = Pair(Fraction(low, 1 << bits),
+                                  Fraction(high, 1 << bits))
+                    self.assertTrue(inside(true_ln(q + p, q - p), coarse))
 
     def test_default_digits(self):
         """Without being told, the pair is narrower than 10**-45."""

@@ -4,7 +4,9 @@ Run as: python3 tests/test_logarithm.py PROBE [COUNT]
 
 PROBE reads lines `ln A B` or `root X` and prints one line for each: `LOW
 HIGH` in units of 10^-9 for a logarithm, `R` for a root from R/131072 to
-(R + 1)/131072, or `none` outside the domain of the function.
+(R + 1)/131072, or `none` outside the domain of the function.  COUNT is how
+many lines are sent in all, 20,000 unless given; the fixed ones among them are
+always sent.
 """
 
 import math
@@ -13,6 +15,7 @@ import re
 import subprocess
 import sys
 from collections import Counter
+from decimal import Decimal
 from fractions import Fraction
 from typing import NamedTuple, Tuple
 
@@ -244,6 +247,14 @@ def next_to_both(rng):
     return next_to(rng, top, 64 * 4096)
 
 
+def close_to_unit(rng):
+    """Draw a ratio whose logarithm is very close to a whole unit."""
+    units = rng.randrange(rng.choice((UNITS, 10 * UNITS)))
+    power = Fraction((Decimal(units) / UNITS).exp())
+    ratio = power.limit_denominator(int(END / power))
+    return ratio.numerator, ratio.denominator
+
+
 def equals(rng):
     """Draw a = b."""
     b = any_size(rng)
@@ -294,6 +305,26 @@ def near_square(rng):
     return k * k + rng.randint(-1, 1)
 
 
+def root_of_residue(c, bits):
+    """Return s with s*s equal to c modulo 2^bits, for c of form 8m + 1."""
+    s = 1
+    for k in range(3, bits):
+        if (s * s - c) >> k & 1:
+            s += 2 ** (k - 1)
+    return s
+
+
+def close_to_step(rng):
+    """Draw a number whose root is very close to a whole R."""
+    # Then x * 131072^2 is s*s - c, with c small beside s.
+    square_bits = (ROOT_STEPS ** 2).bit_length() - 1
+    c = 8 * rng.randint(-400, 400) + 1
+    s = rng.choice((-1, 1)) * root_of_residue(c, square_bits)
+    s += rng.randrange(2) << square_bits - 1
+    s %= 2 ** square_bits
+    return s * s - c >> square_bits
+
+
 LN_DRAWN = {
     'ln of any size': whole_domain,
     'ln of (R + 1000)/100': distance_ratio,
@@ -305,6 +336,7 @@ LN_DRAWN = {
     'ln next to (64 + i)/64': next_to_64th,
     'ln next to (4096 + j)/4096': next_to_4096th,
     'ln next to both in turn': next_to_both,
+    'ln close to a whole unit': close_to_unit,
     'ln of a = b': equals,
     'ln of a = b + 1': neighbours,
     'ln of a little above b': near_equals,
@@ -314,6 +346,7 @@ ROOT_DRAWN = {
     'root of any size': any_number,
     'root of squares and neighbours': near_square,
     'root of r*r + h*h': square_sum,
+    'root close to a whole R': close_to_step,
 }
 
 
@@ -357,10 +390,15 @@ def has_few_terms(a, b):
 
 def read_numbers(answer, how_many):
     """Return the whole numbers of an answer, or None if it has others."""
-    if not re.fullmatch(r'-?[0-9]+( -?[0-9]+)*', answer):
+    if not re.fullmatch(r'-?[0-9]{1,30}( -?[0-9]{1,30})*', answer):
         return None
     numbers = [int(word) for word in answer.split(' ')]
     return numbers if len(numbers) == how_many else None
+
+
+def in_units(difference):
+    """Return a text for a difference, rounded, in units."""
+    return f'{float(difference * UNITS):.3g} units'
 
 
 def ln_fault(a, b, low, high):
@@ -375,9 +413,9 @@ def ln_fault(a, b, low, high):
     answer = Pair(Fraction(low, UNITS), Fraction(high, UNITS))
     true = true_ln(a, b)
     if true.low < answer.low:
-        return f'the low end is too high, {float(true.low * UNITS)}'
+        return f'the low end is {in_units(answer.low - true.low)} too high'
     if true.high > answer.high:
-        return f'the high end is too low, {float(true.high * UNITS)}'
+        return f'the high end is {in_units(true.high - answer.high)} too low'
     return sums_fault(a, b, answer) if has_few_terms(a, b) else None
 
 
@@ -486,7 +524,7 @@ def run(probe, count):
     print_widths(widths(cases, lines))
     for message in faults[:FAILURES_SHOWN]:
         print(f'FAILED {message}')
-    print(f'{len(faults)} failures' if faults else 'no failures')
+    print(f'failures: {len(faults)}')
     return 1 if faults else 0
 
 

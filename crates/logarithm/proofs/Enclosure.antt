@@ -17,8 +17,7 @@ use Rattle.exact.specs.Formula.{Formula, eval, ends, Encloses}
 use Rattle.exact.proofs.FractionLaws.{≤q-refl, neg-anti}
 use Rattle.exact.proofs.LogarithmLaws.{ln-proper, ln-flipped}
 use Rattle.exact.proofs.Points.{Points, value, Picked, Sound, encloses-by}
-use Rattle.logarithm.specs.Evaluation.{LnDomain, lnOf, rootOf}
-use Rattle.logarithm.specs.Promise.{rootFineness}
+use Rattle.logarithm.specs.Evaluation.{LnDomain, lnOf, rootFineness, rootOf}
 use Rattle.logarithm.proofs.Laws.{lnOf-promise, rootOf-promise}
 
 -- the engine's ends of a logarithm

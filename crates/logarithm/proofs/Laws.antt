@@ -7,8 +7,8 @@ use lib.Dec.{T, eqb, eqb→eq}
 use Rattle.exact.proofs.LogarithmLaws.{Bounds, bounds-wider, bounds-same, encloses-ln}
 use Rattle.exact.proofs.RootLaws.{wholeRoot-is, root-below, encloses-root}
 use Rattle.logarithm.specs.declared.Ends.{Ends}
-use Rattle.logarithm.specs.Evaluation.{LnDomain, scaledOf, scaledLnOf, lnOf, rootOf}
-use Rattle.logarithm.specs.Promise.{lnWidth, LnEnds, rootFineness, RootEnds}
+use Rattle.logarithm.specs.Evaluation.{LnDomain, scaledOf, missing, scaledLnOf, lnOf, rootFineness, rootOf}
+use Rattle.logarithm.specs.Promise.{lnWidth, LnEnds, RootEnds}
 use Rattle.logarithm.proofs.Walk.{U}
 use Rattle.logarithm.proofs.Octave.{scales}
 use Rattle.logarithm.proofs.Sum.{mantissa-ln, total}
@@ -22,7 +22,7 @@ record Rounded (a b : ℕ) (e : Ends) : Type 0 where
 
 -- a sum in units of 1/U, to 23 for each octave and 209, rounded outward to units
 rounded : (sum k : ℕ) {a b : ℕ} → k ≤ 28 → sum ≤ 86_000_000_000_000 → Bounds U sum (sum + 23 * k + 209) a b →
-    Rounded a b (record { low = sum / 4096; high = (sum + 23 * k + 4304) / 4096 })
+    Rounded a b (record { low = sum / 4096; high = (sum + 23 * k + missing) / 4096 })
 rounded sum k few small b = record {
   bounds = bounds-wider 1_000_000_000 _ _ (omega arith) (omega arith) (omega arith) (omega arith) b;
   order = omega arith;

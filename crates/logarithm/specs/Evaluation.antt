@@ -49,17 +49,23 @@ mantissaLnOf y =
     let f : Factor = fineAt (y * c .by / 2 ^ 35 - 4096) in
     c .logarithm + f .logarithm + nearOneOf (y * c .by * f .by)
 
--- at most 23 for each octave and 209 are missing at the high end, which is rounded up
+-- at most 23 for each octave and 209 are missing, and 4095 round up
+abbrev pub missing : ℕ
+missing = 4304
+
 unfoldable pub scaledLnOf : Scaled → Ends
 scaledLnOf s =
     let sum : ℕ = s .octave * ln2 + mantissaLnOf (s .mantissa) in
-    record { low = sum / 4096; high = (sum + 23 * s .octave + 4304) / 4096 }
+    record { low = sum / 4096; high = (sum + 23 * s .octave + missing) / 4096 }
 
 unfoldable pub lnOf : ℕ → ℕ → Ends
 lnOf a b = cond (eqb a b) (record { low = 0; high = 0 }) (scaledLnOf (scaledOf a b))
 
 -- ---- the root of X
 
--- the root's lower value at fineness 131072 is rootOf X / 131072
+-- the root's two values are taken at this fineness
+abbrev pub rootFineness : ℕ
+rootFineness = 131_072
+
 unfoldable pub rootOf : ℕ → ℕ
-rootOf X = wholeRoot (X * (131_072 * 131_072))
+rootOf X = wholeRoot (X * (rootFineness * rootFineness))

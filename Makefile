@@ -1,0 +1,32 @@
+# make run    proves the crates and runs what there is of the main job
+# make test   all that the gate runs; its last line is 'N passed, 0 failed'
+
+export PATH := $(PATH):/opt/rattle/bin
+CC := gcc
+PROBE := target/tests/probe
+
+.PHONY: run test outside probe need
+.SILENT:
+
+run: probe
+	while read -r question; do echo "$$question: $$(echo "$$question" | $(PROBE))"; done < tests/questions
+
+test: outside
+	rt fmt --check
+	rt ci
+
+# The tests outside Rattle.
+outside: probe
+	tools/logarithm_tables.py --check
+	python3 tests/test_exact.py
+	python3 tests/test_values.py
+	python3 tests/test_logarithm.py $(PROBE)
+
+# A program over the proved library, for the tests.
+probe: need
+	rt staticlib probe
+	mkdir -p target/tests
+	$(CC) -O2 -Wall -Wextra -Werror -std=c99 -o $(PROBE) tests/probe.c target/staticlib/libprobe.a
+
+need:
+	tools/need

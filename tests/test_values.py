@@ -1,0 +1,75 @@
+#!/usr/bin/env python3
+"""The table of proved values against exact fractions.
+
+Each row of crates/values/specs/Table.antt is read as text and worked out by
+exact.py, which was written from document 01 alone.
+"""
+
+import os
+import re
+import sys
+from fractions import Fraction
+
+from exact import Pair, ln_pair, root_pair
+
+HERE = os.path.dirname(os.path.abspath(__file__))
+TABLE = os.path.join(HERE, '..', 'crates', 'values', 'specs', 'Table.antt')
+
+FRACTION = r'\(pos ([\d_]+) over ([\d_]+)\)'
+ENDS = FRACTION + ' ' + FRACTION
+LN = re.compile(r'pairAt ([\d_]+) \(ln ([\d_]+) ([\d_]+)\) ' + ENDS)
+ROOT = re.compile(r'pairAt ([\d_]+) \(root ([\d_]+)\) ' + ENDS)
+EVERY = re.compile(r'lnAtEvery ([\d_]+) ([\d_]+) ' + ENDS)
+
+
+def rows(path):
+    """Return the rows between 'values =' and the empty list, as text."""
+    with open(path, encoding='utf-8') as file:
+        text = file.read()
+    body = re.search(r'^values =\n(.*?)^    \[\]$', text, re.M | re.S).group(1)
+    body = re.sub(r'^\s*--.*\n', '', body, flags=re.M)
+    return [' '.join(row.split()) for row in body.split('∷') if row.strip()]
+
+
+def numbers(match):
+    """Return the numbers of a row."""
+    return [int(group.replace('_', '')) for group in match.groups()]
+
+
+def stated_ends(values):
+    """Return the pair that a row states in its last four numbers."""
+    low, low_over, high, high_over = values[-4:]
+    return Pair(Fraction(low, low_over), Fraction(high, high_over))
+
+
+def row_holds(row):
+    """Say whether a row states what document 01 gives."""
+    match = LN.fullmatch(row)
+    if match:
+        values = numbers(match)
+        n, a, b = values[:3]
+        return ln_pair(a, b, n) == stated_ends(values)
+    match = ROOT.fullmatch(row)
+    if match:
+        values = numbers(match)
+        n, x = values[:2]
+        return root_pair(x, n) == stated_ends(values)
+    match = EVERY.fullmatch(row)
+    if match:
+        values = numbers(match)
+        a, b = values[:2]
+        return all(ln_pair(a, b, n) == stated_ends(values) for n in range(1, 30))
+    raise ValueError(f'a row of a kind that this test does not know: {row}')
+
+
+def main():
+    """Check every row."""
+    table = rows(TABLE)
+    wrong = [row for row in table if not row_holds(row)]
+    for row in wrong:
+        print('wrong:', row)
+    print(f'proved values: {len(table)} rows, {len(wrong)} wrong')
+    sys.exit(1 if wrong or not table else 0)
+
+
+main()
