@@ -1,13 +1,13 @@
 -- Sums of unit fractions: split in two, compared with weights over one denominator, and made finer.
-use mathlib.Core.Path.{_≡_, sym}
+use mathlib.Core.Path.{_≡_, refl, ap}
 use Prim.Native.Nat.{ℕ, zero, suc, _+_, _*_, _-_, _≤_, _<_}
-use native.Mathlib.Nat.{le-refl, add-zero, zero-add, zero-mul, suc-add, add-suc, one-le-mul, mul-le-mul-right, le-of-eq, sub-add-cancel}
+use native.Mathlib.Nat.{le-refl, add-zero, zero-add, zero-mul, suc-add, add-suc, one-le-mul, sub-add-cancel}
 use native.Mathlib.Omega.{arith}
 use lib.IntN.{pos}
 use Rattle.exact.specs.Fraction.{_over_, _≤q_, _≈q_, _+q_, zeroQ}
 use Rattle.exact.specs.Logarithm.{harmonic}
 use Rattle.signed.proofs.Whole.{up, down}
-use Rattle.exact.proofs.FractionLaws.{zero-Is, over-Is, add-Is, le-of, ≤q-refl, ≤q-trans, ≤q-antisym, ≈q-≤q, ≈q-≥q, add-mono, add-more, add-assoc, zero-addQ}
+use Rattle.exact.proofs.FractionLaws.{zero-Is, over-Is, add-Is, le-of, ≤q-refl, ≤q-trans, ≤q-antisym, ≈q-≤q, ≈q-≥q, ≈q-sym, add-mono, add-more, add-assoc, zeroQ-add}
 
 -- ---- n / d with n not negative
 
@@ -23,9 +23,9 @@ over-add n m {d} h =
 
 -- ---- the first c terms, and the rest
 
-pub harmonic-split : (c d k : ℕ) → harmonic (c + d) k ≈q harmonic c k +q (harmonic d (k + c))
+pub harmonic-split : (c d k : ℕ) → harmonic (c + d) k ≈q harmonic c k +q harmonic d (k + c)
 unfolding harmonic
-harmonic-split zero d k = rw (zero-add, add-zero) (≤q-antisym (≈q-≥q (zero-addQ (harmonic d k))) (≈q-≤q (zero-addQ (harmonic d k))))
+harmonic-split zero d k = rw (zero-add, add-zero) (≈q-sym (zeroQ-add (harmonic d k)))
 harmonic-split (suc c) d k =
     rw (suc-add c d, add-suc k c, ← suc-add k c)
     (≤q-antisym
@@ -43,64 +43,79 @@ harmonic-least (suc c) k h =
 pub harmonic-more : (c d k : ℕ) → 1 ≤ k → harmonic c k ≤q harmonic (c + d) k
 harmonic-more c d k h = ≤q-trans (add-more _ (harmonic-least d (k + c) (omega arith))) (≈q-≥q (harmonic-split c d k))
 
--- ---- weights over one denominator
+-- ---- compared with weights w k / D, term by term
 
 abbrev pub weights : (ℕ → ℕ) → ℕ → ℕ → ℕ
 weights w zero k = 0
 weights w (suc c) k = w k + weights w c (suc k)
 
-pub weights-below : (w : ℕ → ℕ) {D : ℕ} → 1 ≤ D → (c k : ℕ) → 1 ≤ k → ((j : ℕ) → k ≤ j → j < k + c → w j * j ≤ D) → pos (weights w c k) over D ≤q harmonic c k
-unfolding harmonic up down
-weights-below w {D} hD zero k hk h = le-of (over-Is (pos 0) D hD) zero-Is (omega arith)
-weights-below w hD (suc c) k hk h =
-    ≤q-trans (≈q-≥q (over-add (w k) (weights w c (suc k)) hD))
-    (add-mono (over-≤ _ _ hD hk (omega (arith, h k (le-refl k) (omega arith)))) (weights-below w hD c (suc k) (omega arith) (λ j p q. h j (omega arith) (omega arith))))
+module _ (w : ℕ → ℕ) {D : ℕ} (hD : 1 ≤ D) where
+  pub weights-below : (c k : ℕ) → 1 ≤ k → ((j : ℕ) → k ≤ j → j < k + c → w j * j ≤ D) →
+      pos (weights w c k) over D ≤q harmonic c k
+  unfolding harmonic up down
+  weights-below zero k hk h = le-of (over-Is (pos 0) D hD) zero-Is (omega arith)
+  weights-below (suc c) k hk h =
+      ≤q-trans (≈q-≥q (over-add (w k) (weights w c (suc k)) hD))
+      (add-mono (over-≤ _ _ hD hk (omega (arith, h k (le-refl k) (omega arith))))
+      (weights-below c (suc k) (omega arith) (λ j p q. h j (omega arith) (omega arith))))
 
-pub weights-above : (w : ℕ → ℕ) {D : ℕ} → 1 ≤ D → (c k : ℕ) → 1 ≤ k → ((j : ℕ) → k ≤ j → j < k + c → D ≤ w j * j) → harmonic c k ≤q pos (weights w c k) over D
-unfolding harmonic up down
-weights-above w {D} hD zero k hk h = le-of zero-Is (over-Is (pos 0) D hD) (omega arith)
-weights-above w hD (suc c) k hk h =
-    ≤q-trans (add-mono (over-≤ _ _ hk hD (omega (arith, h k (le-refl k) (omega arith)))) (weights-above w hD c (suc k) (omega arith) (λ j p q. h j (omega arith) (omega arith))))
-    (≈q-≤q (over-add (w k) (weights w c (suc k)) hD))
+  pub weights-above : (c k : ℕ) → 1 ≤ k → ((j : ℕ) → k ≤ j → j < k + c → D ≤ w j * j) →
+      harmonic c k ≤q pos (weights w c k) over D
+  unfolding harmonic up down
+  weights-above zero k hk h = le-of zero-Is (over-Is (pos 0) D hD) (omega arith)
+  weights-above (suc c) k hk h =
+      ≤q-trans
+      (add-mono (over-≤ _ _ hk hD (omega (arith, h k (le-refl k) (omega arith))))
+      (weights-above c (suc k) (omega arith) (λ j p q. h j (omega arith) (omega arith))))
+      (≈q-≤q (over-add (w k) (weights w c (suc k)) hD))
 
-pub weights-same : (w c k : ℕ) → weights (λ (j : ℕ). w) c k ≡ c * w
-weights-same w zero k = omega arith
-weights-same w (suc c) k = omega (arith, weights-same w c (suc k))
+weights-one : (c k : ℕ) → weights (λ (j : ℕ). 1) c k ≡ c
+weights-one zero k = refl
+weights-one (suc c) k = omega (arith, weights-one c (suc k))
 
--- the weights s − k
-pub weights-down : (s c k : ℕ) → k + c ≤ suc s → 2 * weights (λ (j : ℕ). s - j) c k + 2 * (c * k) + c * c ≡ 2 * (c * s) + c
-weights-down s zero k h = omega arith
-weights-down s (suc c) k h = omega (arith, weights-down s c (suc k) (omega arith), sub-add-cancel {n = s} {m = k} (omega arith))
+-- the weights r (s − k)
+pub weights-down : (r s c k : ℕ) → k + c ≤ suc s →
+    2 * weights (λ (j : ℕ). r * (s - j)) c k + r * (2 * (c * k) + c * c) ≡ r * (2 * (c * s) + c)
+weights-down r s zero k h = omega arith
+weights-down r s (suc c) k h =
+    omega (arith, weights-down r s c (suc k) (omega arith), ap (λ (z : ℕ). r * z) (sub-add-cancel {n = s} {m = k} (omega arith)))
 
 -- ---- r terms in the place of each: the upper sum falls, and the lower sum rises
+
+more : (c r : ℕ) → suc c * r ≡ r + c * r
+more c r = omega arith
+
+-- r terms from k r on are at most r/(k r), and r terms up to k r at least
+terms-below : (r k : ℕ) → 1 ≤ r → 1 ≤ k → harmonic r (k * r) ≤q pos 1 over k
+terms-below r k hr hk =
+    let n : 1 ≤ k * r = one-le-mul hk hr in
+    ≤q-trans (weights-above (λ (j : ℕ). 1) n r (k * r) n (λ j p q. omega arith))
+    (rw (weights-one r (k * r)) (over-≤ r 1 n hk (omega arith)))
+
+terms-above : (r k : ℕ) → 1 ≤ r → pos 1 over suc k ≤q harmonic r (suc (k * r))
+terms-above r k hr =
+    let n : 1 ≤ suc k * r = one-le-mul {a = suc k} (omega arith) hr in
+    ≤q-trans (over-≤ 1 r (omega arith) n (omega arith))
+    (rw (weights-one r (suc (k * r))) at (weights-below (λ (j : ℕ). 1) n r (suc (k * r)) (omega arith) (λ j p q. omega arith)))
 
 pub finer-upper : (r c k : ℕ) → 1 ≤ r → 1 ≤ k → harmonic (c * r) (k * r) ≤q harmonic c k
 unfolding harmonic
 finer-upper r zero k hr hk = rw zero-mul (≤q-refl _)
 finer-upper r (suc c) k hr hk =
-    let n : 1 ≤ k * r = one-le-mul hk hr in
-    let first : harmonic r (k * r) ≤q pos 1 over k =
-    ≤q-trans (weights-above (λ (j : ℕ). 1) n r (k * r) n (λ j p q. omega arith)) (over-≤ _ _ n hk (omega (arith, mul-le-mul-right k (le-of-eq (weights-same 1 r (k * r)))))) in
-    rw (more c r) (≤q-trans (≈q-≤q (harmonic-split r (c * r) (k * r))) (add-mono first (rw (next k r) (finer-upper r c (suc k) hr (omega arith)))))
+    rw (more c r)
+    (≤q-trans (≈q-≤q (harmonic-split r (c * r) (k * r)))
+    (add-mono (terms-below r k hr hk) (rw next (finer-upper r c (suc k) hr (omega arith)))))
   where
-    more : (c r : ℕ) → suc c * r ≡ r + c * r
-    more c r = omega arith
-
-    next : (k r : ℕ) → k * r + r ≡ suc k * r
-    next k r = omega arith
+    next : k * r + r ≡ suc k * r
+    next = omega arith
 
 pub finer-lower : (r c k : ℕ) → 1 ≤ r → harmonic c (suc k) ≤q harmonic (c * r) (suc (k * r))
 unfolding harmonic
 finer-lower r zero k hr = rw zero-mul (≤q-refl _)
 finer-lower r (suc c) k hr =
-    let n : 1 ≤ suc k * r = one-le-mul {a = suc k} (omega arith) hr in
-    let first : pos 1 over suc k ≤q harmonic r (suc (k * r)) =
-    ≤q-trans (over-≤ _ _ (omega arith) n (omega (arith, mul-le-mul-right (suc k) (le-of-eq (sym (weights-same 1 r (suc (k * r))))))))
-    (weights-below (λ (j : ℕ). 1) n r (suc (k * r)) (omega arith) (λ j p q. omega arith)) in
-    rw (more c r) (≤q-trans (add-mono first (rw (next k r) (finer-lower r c (suc k) hr))) (≈q-≥q (harmonic-split r (c * r) (suc (k * r)))))
+    rw (more c r)
+    (≤q-trans (add-mono (terms-above r k hr) (rw next (finer-lower r c (suc k) hr)))
+    (≈q-≥q (harmonic-split r (c * r) (suc (k * r)))))
   where
-    more : (c r : ℕ) → suc c * r ≡ r + c * r
-    more c r = omega arith
-
-    next : (k r : ℕ) → suc (k * r) + r ≡ suc (suc k * r)
-    next k r = omega arith
+    next : suc (k * r) + r ≡ suc (suc k * r)
+    next = omega arith

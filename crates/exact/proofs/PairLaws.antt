@@ -3,7 +3,7 @@ use mathlib.Core.Path.{_≡_, refl}
 use mathlib.Core.Bool.{Bool, true, false, cond}
 use lib.Dec.{T}
 use Rattle.exact.specs.Fraction.{Fraction, leQ, _≤q_, _<q_, _+q_, _-q_, _*q_, _/q_, zeroQ, maxQ}
-use Rattle.exact.proofs.FractionLaws.{≤q-refl, ≤q-trans, ≤q-or, <q-≤q-trans, ≤q-<q-trans, mul-above, min-above, add-mono, sub-mono, Between, upward, downward, mul-between-left, mul-between-right, between-low, between-high, recip-anti, min-left, min-right, max-left, max-right, min-greatest, max-least}
+use Rattle.exact.proofs.FractionLaws.{≤q-refl, ≤q-trans, <q-≤q-trans, ≤q-<q-trans, mul-above, min-above, add-mono, sub-mono, Between, upward, downward, mul-between-left, mul-between-right, between-low, between-high, recip-anti, min-left, min-right, max-left, max-right, max-least}
 use Rattle.exact.specs.Pair.{Pair, _∈_, Meets, Proper, AboveZero, exactly, _+p_, _-p_, span4, _*p_, _/p_, hull, reachesUpTo, reachesAbove, branch}
 
 -- every point of P is one of Q
@@ -147,14 +147,6 @@ module _ {P P' Q Q' : Pair} (m : Meets P P') (k : Meets Q Q') where
 pub proper-mul : (P Q : Pair) → Proper (P *p Q)
 unfolding _*p_
 proper-mul P Q = in-proper (in-first _ _ _ _)
-
--- four points of a pair span a part of it
-pub span-within : {a b c d : Fraction} {P : Pair} → a ∈ P → b ∈ P → c ∈ P → d ∈ P → Within (span4 a b c d) P
-unfolding span4
-span-within h i j k = record {
-  lower = min-greatest (min-greatest (h .from) (i .from)) (min-greatest (j .from) (k .from));
-  higher = max-least (max-least (h .to) (i .to)) (max-least (j .to) (k .to));
-}
 
 above-high : {P : Pair} → Proper P → AboveZero P → zeroQ <q P .high
 above-high p z = <q-≤q-trans (z .above) (p .ordered)
