@@ -261,13 +261,13 @@ pub data Between (a b z : Fraction) : Type 0 where
 
 pub mul-between-left : {a b x : Fraction} (y : Fraction) → Between a b x → Between (a *q y) (b *q y) (x *q y)
 mul-between-left y (upward h k) = elim (sign y) [
-    inl j ↦ upward (mul-mono y (j .1) h) (mul-mono y (j .1) k)
+  | inl j ↦ upward (mul-mono y (j .1) h) (mul-mono y (j .1) k)
   | inr j ↦ downward (mul-anti y (j .1) k) (mul-anti y (j .1) h)
-  ]
+]
 mul-between-left y (downward h k) = elim (sign y) [
-    inl j ↦ downward (mul-mono y (j .1) h) (mul-mono y (j .1) k)
+  | inl j ↦ downward (mul-mono y (j .1) h) (mul-mono y (j .1) k)
   | inr j ↦ upward (mul-anti y (j .1) k) (mul-anti y (j .1) h)
-  ]
+]
 
 pub mul-between-right : {a b x : Fraction} (y : Fraction) → Between a b x → Between (y *q a) (y *q b) (y *q x)
 mul-between-right {a} {b} {x} y h = turn (mul-between-left y h)

@@ -1,17 +1,18 @@
--- Bounds of a logarithm that hold at every fineness: they add along a chain, keep when a and b are multiplied or divided by one number,
--- and give ends that enclose the logarithm.
+-- Bounds of a logarithm that hold at every fineness: they add along a chain, keep when a and b are multiplied or divided
+-- by one number, and give ends that enclose the logarithm.
 use mathlib.Core.Path.{_≡_, ap}
 use Prim.Native.Nat.{ℕ, zero, suc, _+_, _*_, _-_, _≤_, _<_}
 use native.Mathlib.Nat.{le-of-lt, mul-le-mul-right, one-le-mul, sub-add-cancel, sub-self}
+use native.Mathlib.Decide.{decLe}
 use native.Mathlib.Omega.{arith}
 use borrow.Author.Tests.{le-leb, lt-leb}
 use lib.IntN.{pos}
-use Rattle.exact.specs.Fraction.{Fraction, _over_, _≤q_, _<q_, _+q_, negQ, zeroQ}
+use Rattle.exact.specs.Fraction.{_over_, _≤q_, _<q_, _+q_, negQ, zeroQ}
 use Rattle.exact.specs.Pair.{Proper, AboveZero}
 use Rattle.exact.specs.Logarithm.{harmonic, lowerSum, upperSum, lnPair}
 use Rattle.exact.specs.Formula.{ln, eval, Defined, Encloses, units, ends}
 use Rattle.signed.proofs.Whole.{up, down}
-use Rattle.exact.proofs.FractionLaws.{zero-Is, over-Is, le-of, lt-of, ≤q-refl, ≤q-trans, <q-≤q-trans, ≈q-≤q, ≈q-≥q, add-mono, add-more, add-comm-le}
+use Rattle.exact.proofs.FractionLaws.{zero-Is, over-Is, le-of, lt-of, ≤q-refl, ≤q-trans, <q-≤q-trans, ≈q-≤q, ≈q-≥q, add-mono, add-more, add-comm-le, neg-anti}
 use Rattle.exact.proofs.PairLaws.{ends-meet}
 use Rattle.exact.proofs.Harmonic.{over-≤, over-add, harmonic-split, harmonic-least, harmonic-more, finer-upper, finer-lower}
 
@@ -21,7 +22,8 @@ pub record Bounds (S x y a b : ℕ) : Type 0 where
   pub upper : (n : ℕ) → 1 ≤ n → lowerSum n a b ≤q pos y over S
 
 -- wider bounds, over another denominator
-pub bounds-wider : (S x y : ℕ) {R v w a b : ℕ} → 1 ≤ S → 1 ≤ R → x * R ≤ v * S → w * S ≤ y * R → Bounds R v w a b → Bounds S x y a b
+pub bounds-wider : (S x y : ℕ) {R v w a b : ℕ} → 1 ≤ S → 1 ≤ R → x * R ≤ v * S → w * S ≤ y * R →
+    Bounds R v w a b → Bounds S x y a b
 bounds-wider S x y {v = v} {w} hS hR p q b = record {
   lower = λ n g. ≤q-trans (over-≤ x v hS hR p) (b .lower n g);
   upper = λ n g. ≤q-trans (b .upper n g) (over-≤ w y hR hS q);
@@ -31,7 +33,8 @@ bounds-wider S x y {v = v} {w} hS hR p q b = record {
 
 zero-lower : (a b S : ℕ) → 1 ≤ b → 1 ≤ S → (n : ℕ) → 1 ≤ n → pos 0 over S ≤q upperSum n a b
 unfolding upperSum up down
-zero-lower a b S hb h n g = ≤q-trans (le-of (over-Is (pos 0) S h) zero-Is (omega arith)) (harmonic-least _ _ (one-le-mul hb g))
+zero-lower a b S hb h n g =
+    ≤q-trans (le-of (over-Is (pos 0) S h) zero-Is (omega arith)) (harmonic-least _ _ (one-le-mul hb g))
 
 pub bounds-same : {a S : ℕ} → 1 ≤ a → 1 ≤ S → Bounds S 0 0 a a
 unfolding lowerSum harmonic up down
@@ -45,7 +48,8 @@ pub bounds-less : {S x y a a' b : ℕ} → 1 ≤ S → 1 ≤ b → b ≤ a → a
 unfolding lowerSum
 bounds-less {S} {a = a} {a'} {b} hS hb p q u = record {
   lower = zero-lower a b S hb hS;
-  upper = λ n g. ≤q-trans (rw (two n) (harmonic-more (a * n - b * n) (a' * n - a * n) (suc (b * n)) (omega arith))) (u .upper n g);
+  upper = λ n g.
+      ≤q-trans (rw (two n) (harmonic-more (a * n - b * n) (a' * n - a * n) (suc (b * n)) (omega arith))) (u .upper n g);
 }
   where
     two : (n : ℕ) → a' * n - b * n ≡ (a * n - b * n) + (a' * n - a * n)
@@ -65,17 +69,23 @@ module _ (n : ℕ) {a c b : ℕ} (hb : b ≤ c) (ha : c ≤ a) where
 
   upper-chain : upperSum n a c +q upperSum n c b ≤q upperSum n a b
   unfolding upperSum
-  upper-chain = ≤q-trans (add-comm-le _ _) (rw two-gaps (rw past at (≈q-≥q (harmonic-split (c * n - b * n) (a * n - c * n) (b * n)))))
+  upper-chain =
+      ≤q-trans (add-comm-le _ _)
+      (rw two-gaps (rw past at (≈q-≥q (harmonic-split (c * n - b * n) (a * n - c * n) (b * n)))))
 
   lower-chain : lowerSum n a b ≤q lowerSum n a c +q lowerSum n c b
   unfolding lowerSum
   lower-chain =
-      ≤q-trans (rw two-gaps (rw past-suc at (≈q-≤q (harmonic-split (c * n - b * n) (a * n - c * n) (suc (b * n)))))) (add-comm-le _ _)
+      ≤q-trans (rw two-gaps (rw past-suc at (≈q-≤q (harmonic-split (c * n - b * n) (a * n - c * n) (suc (b * n))))))
+      (add-comm-le _ _)
 
-pub bounds-plus : (S : ℕ) {x y v w a c b : ℕ} → 1 ≤ S → b ≤ c → c ≤ a → Bounds S x y a c → Bounds S v w c b → Bounds S (x + v) (y + w) a b
+pub bounds-plus : (S : ℕ) {x y v w a c b : ℕ} → 1 ≤ S → b ≤ c → c ≤ a →
+    Bounds S x y a c → Bounds S v w c b → Bounds S (x + v) (y + w) a b
 bounds-plus S {x} {y} {v} {w} hS hb ha p q = record {
-  lower = λ n g. ≤q-trans (≈q-≥q (over-add x v hS)) (≤q-trans (add-mono (p .lower n g) (q .lower n g)) (upper-chain n hb ha));
-  upper = λ n g. ≤q-trans (lower-chain n hb ha) (≤q-trans (add-mono (p .upper n g) (q .upper n g)) (≈q-≤q (over-add y w hS)));
+  lower = λ n g.
+      ≤q-trans (≈q-≥q (over-add x v hS)) (≤q-trans (add-mono (p .lower n g) (q .lower n g)) (upper-chain n hb ha));
+  upper = λ n g.
+      ≤q-trans (lower-chain n hb ha) (≤q-trans (add-mono (p .upper n g) (q .upper n g)) (≈q-≤q (over-add y w hS)));
 }
 
 -- ---- both arguments times r, and back
@@ -93,7 +103,8 @@ bounds-times r {a = a} {b} hr p = record {
 pub bounds-over : (r : ℕ) {S x y a b : ℕ} → 1 ≤ r → 1 ≤ b → b ≤ a → Bounds S x y (r * a) (r * b) → Bounds S x y a b
 unfolding upperSum lowerSum
 bounds-over r {a = a} {b} hr hb hab p = record {
-  lower = λ n g. ≤q-trans (p .lower n g) (rw (gap n, start n) (finer-upper r (a * n - b * n) (b * n) hr (one-le-mul hb g)));
+  lower = λ n g.
+      ≤q-trans (p .lower n g) (rw (gap n, start n) (finer-upper r (a * n - b * n) (b * n) hr (one-le-mul hb g)));
   upper = λ n g. ≤q-trans (rw (gap n, start n) (finer-lower r (a * n - b * n) (b * n) hr)) (p .upper n g);
 }
   where
@@ -124,25 +135,35 @@ module _ {a b : ℕ} (hb : 1 ≤ b) (hab : b ≤ a) where
   unfolding lnPair
   ordered-pair n = simp (le-leb b a hab)
 
-  pub ln-proper : (n : ℕ) → 1 ≤ n → Proper (lnPair n a b)
+  ordered-proper : (n : ℕ) → 1 ≤ n → Proper (lnPair n a b)
   unfolding lowerSum upperSum
-  ln-proper n g = rw (ordered-pair n) (record { ordered = harmonic-later (a * n - b * n) (b * n) (one-le-mul hb g) })
+  ordered-proper n g = rw (ordered-pair n) (record { ordered = harmonic-later (a * n - b * n) (b * n) (one-le-mul hb g) })
 
   pub encloses-ln : {l h : ℕ} → l ≤ h → Bounds 1_000_000_000 l h a b → Encloses (ends (pos l) (pos h)) (ln a b)
   unfolding eval Defined ends units
   encloses-ln {l} {h} o p = record {
     defined = λ n g. tt;
     meets = λ n g.
-        ends-meet (record { ordered = over-≤ l h (omega arith) (omega arith) (omega arith) }) (ln-proper n g)
+        ends-meet (record { ordered = over-≤ l h (omega arith) (omega arith) (omega arith) }) (ordered-proper n g)
         (rw (ordered-pair n) (p .lower n g)) (rw (ordered-pair n) (p .upper n g));
   }
 
 pub ln-above : {a b : ℕ} → 1 ≤ b → b < a → (n : ℕ) → 1 ≤ n → AboveZero (lnPair n a b)
 unfolding lowerSum
 ln-above {a} {b} hb hab n g =
-    rw (ordered-pair {a = a} hb (omega arith) n) (record { above = harmonic-above (a * n - b * n) (suc (b * n)) (omega (arith, mul-le-mul-right n hab)) (omega arith) })
+    rw (ordered-pair {a = a} hb (omega arith) n)
+    (record { above = harmonic-above (a * n - b * n) (suc (b * n)) (omega (arith, mul-le-mul-right n hab)) (omega arith) })
 
 -- for a < b the ends are those of b/a, negated and exchanged
-pub ln-flipped : {a b : ℕ} → a < b → (n : ℕ) → lnPair n a b ≡ record { low = negQ (lnPair n b a .high); high = negQ (lnPair n b a .low) }
+pub ln-flipped : {a b : ℕ} → a < b → (n : ℕ) →
+    lnPair n a b ≡ record { low = negQ (lnPair n b a .high); high = negQ (lnPair n b a .low) }
 unfolding lnPair
 ln-flipped {a} {b} h n = simp (lt-leb b a h, le-leb a b (le-of-lt h))
+
+-- at every fineness the low end is at most the high end
+pub ln-proper : {a b : ℕ} → 1 ≤ a → 1 ≤ b → (n : ℕ) → 1 ≤ n → Proper (lnPair n a b)
+ln-proper {a} {b} ha hb n g = elim (decLe b a) [
+  | yes h ↦ ordered-proper hb h n g
+  | no h ↦ let l : a < b = omega arith in
+      rw (ln-flipped l n) (record { ordered = neg-anti (ordered-proper ha (le-of-lt l) n g .ordered) })
+]

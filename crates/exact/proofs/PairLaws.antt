@@ -1,4 +1,5 @@
--- Points go through the operations on pairs: what lies in the operands' pairs is taken to what lies in the result's. So pairs that meet have results that meet.
+-- Points go through the operations on pairs: what lies in the operands' pairs is taken to what lies in the result's.
+-- So pairs that meet have results that meet.
 use mathlib.Core.Path.{_≡_, refl}
 use mathlib.Core.Bool.{Bool, true, false, cond}
 use lib.Dec.{T}
@@ -54,7 +55,8 @@ pub between-in : {a b z : Fraction} {P : Pair} → Between a b z → a ∈ P →
 between-in g h k = record { from = between-low g (h .from) (k .from); to = between-high g (h .to) (k .to) }
 
 -- x from a to b, and y from c to d or from d to c: x y is among the four products
-in-span : {a b c d x y : Fraction} → Between a b x → Between c d y → x *q y ∈ span4 (a *q c) (a *q d) (b *q c) (b *q d)
+in-span : {a b c d x y : Fraction} → Between a b x → Between c d y →
+    x *q y ∈ span4 (a *q c) (a *q d) (b *q c) (b *q d)
 in-span {a} {b} {c} {d} {x} {y} h k =
     between-in (mul-between-left y h)
     (between-in (mul-between-right a k) (in-first _ _ _ _) (in-second _ _ _ _))
@@ -69,7 +71,9 @@ in-mul h k = in-span (in-between h) (in-between k)
 
 pub in-div : {x y : Fraction} {P Q : Pair} → AboveZero Q → x ∈ P → y ∈ Q → x /q y ∈ P /p Q
 unfolding _/p_ _/q_
-in-div z h k = in-span (in-between h) (downward (recip-anti (<q-≤q-trans (z .above) (k .from)) (k .to)) (recip-anti (z .above) (k .from)))
+in-div z h k =
+    in-span (in-between h)
+    (downward (recip-anti (<q-≤q-trans (z .above) (k .from)) (k .to)) (recip-anti (z .above) (k .from)))
 
 in-hull-left : {x : Fraction} {P : Pair} (Q : Pair) → x ∈ P → x ∈ hull P Q
 unfolding hull
@@ -101,7 +105,8 @@ cond-above true false A B t h = absurd t
 cond-above false e A B t h = h
 
 -- z where x is up to y, else w
-pub in-branch : {x y z w : Fraction} {P Q A B : Pair} → x ∈ P → y ∈ Q → z ∈ A → w ∈ B → cond (leQ x y) z w ∈ branch P Q A B
+pub in-branch : {x y z w : Fraction} {P Q A B : Pair} → x ∈ P → y ∈ Q → z ∈ A → w ∈ B →
+    cond (leQ x y) z w ∈ branch P Q A B
 unfolding branch
 in-branch {x} {y} {z} {w} {P} {Q} {A} {B} h k i j = go (leQ x y) refl
   where
@@ -119,28 +124,30 @@ ends-meet {P} {Q} p q h k = record {
   right = record { from = max-right _ _; to = max-least h (q .ordered) };
 }
 
+at : {P Q : Pair} (x : Fraction) → x ∈ P → x ∈ Q → Meets P Q
+at x h k = record { point = x; left = h; right = k }
+
+-- meeting is kept by widening, and by every operation
 pub meets-within : {P P' Q : Pair} → Within P P' → Meets P Q → Meets P' Q
-meets-within w m = record { point = m .point; left = in-within w (m .left); right = m .right }
+meets-within w m = at (m .point) (in-within w (m .left)) (m .right)
 
 module _ {P P' Q Q' : Pair} (m : Meets P P') (k : Meets Q Q') where
   pub meets-add : Meets (P +p Q) (P' +p Q')
-  meets-add = record { point = m .point +q k .point; left = in-add (m .left) (k .left); right = in-add (m .right) (k .right) }
+  meets-add = at (m .point +q k .point) (in-add (m .left) (k .left)) (in-add (m .right) (k .right))
 
   pub meets-sub : Meets (P -p Q) (P' -p Q')
-  meets-sub = record { point = m .point -q k .point; left = in-sub (m .left) (k .left); right = in-sub (m .right) (k .right) }
+  meets-sub = at (m .point -q k .point) (in-sub (m .left) (k .left)) (in-sub (m .right) (k .right))
 
   pub meets-mul : Meets (P *p Q) (P' *p Q')
-  meets-mul = record { point = m .point *q k .point; left = in-mul (m .left) (k .left); right = in-mul (m .right) (k .right) }
+  meets-mul = at (m .point *q k .point) (in-mul (m .left) (k .left)) (in-mul (m .right) (k .right))
 
   pub meets-div : AboveZero Q → AboveZero Q' → Meets (P /p Q) (P' /p Q')
-  meets-div z z' = record { point = m .point /q k .point; left = in-div z (m .left) (k .left); right = in-div z' (m .right) (k .right) }
+  meets-div z z' = at (m .point /q k .point) (in-div z (m .left) (k .left)) (in-div z' (m .right) (k .right))
 
   pub meets-branch : {A A' B B' : Pair} → Meets A A' → Meets B B' → Meets (branch P Q A B) (branch P' Q' A' B')
-  meets-branch i j = record {
-    point = cond (leQ (m .point) (k .point)) (i .point) (j .point);
-    left = in-branch (m .left) (k .left) (i .left) (j .left);
-    right = in-branch (m .right) (k .right) (i .right) (j .right);
-  }
+  meets-branch i j =
+      at (cond (leQ (m .point) (k .point)) (i .point) (j .point)) (in-branch (m .left) (k .left) (i .left) (j .left))
+      (in-branch (m .right) (k .right) (i .right) (j .right))
 
 -- ---- products
 

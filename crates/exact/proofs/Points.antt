@@ -1,8 +1,8 @@
--- The fact about pairs. Put a point of its pair for each logarithm and root of a formula: the value that the formula then has lies in
--- the formula's pair. So ends that hold this value, whatever the points, enclose the formula. One fact serves every operation.
+-- The fact about pairs. Put a point of its pair for each logarithm and root of a formula: the value that the formula then
+-- has lies in the formula's pair. So ends that hold this value enclose the formula. One fact serves every operation.
 use mathlib.Core.Bool.{cond}
 use Prim.Native.Nat.{ℕ, _≤_, _<_}
-use native.Mathlib.Nat.{le-of-lt}
+use native.Mathlib.Omega.{arith}
 use Rattle.exact.specs.Fraction.{Fraction, leQ, _+q_, _-q_, _*q_, _/q_}
 use Rattle.exact.specs.Pair.{Pair, _∈_, Proper, AboveZero}
 use Rattle.exact.specs.Logarithm.{lnPair}
@@ -41,7 +41,7 @@ pub record Positive (e : Formula) : Type 0 where
 
 pub positive-ln : {a b : ℕ} → 1 ≤ b → b < a → Positive (ln a b)
 unfolding eval
-positive-ln hb hab = record { proper = ln-proper hb (le-of-lt hab); above = ln-above hb hab }
+positive-ln {a} hb hab = record { proper = ln-proper {a = a} (omega arith) hb; above = ln-above hb hab }
 
 pub positive-product : {e f : Formula} → Positive e → Positive f → Positive (e ⊗ f)
 unfolding eval

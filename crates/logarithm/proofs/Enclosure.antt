@@ -1,9 +1,9 @@
--- How a crate above shows an enclosure. Take each logarithm and root for a number that lies within the engine's ends, and show that the
--- formula's value lies within the answer's: then the answer encloses the formula at every fineness.
+-- How a crate above shows an enclosure. Take each logarithm and root for a number that lies within the engine's ends, and
+-- show that the formula's value lies within the answer's: then the answer encloses the formula at every fineness.
 use mathlib.Core.Path.{_≡_, refl}
 use mathlib.Core.Bool.{cond}
 use Prim.Native.Nat.{ℕ, _^_, _≤_, _<_}
-use native.Mathlib.Nat.{le-of-lt}
+use native.Mathlib.Nat.{le-of-lt, le-trans}
 use native.Mathlib.Decide.{decLe, decLt}
 use native.Mathlib.Omega.{arith}
 use borrow.Author.Tests.{le-leb, lt-leb}
@@ -48,7 +48,7 @@ choice n a b g = go (decLe 1 b) (decLe b a) (decLt a (2 ^ 29))
         record { point = m .point; exact = λ _ _. m .right; within = λ _. m .left }
     go (yes p) (yes q) (no r) = record {
       point = lnPair n a b .low;
-      exact = λ _ _. record { from = ≤q-refl _; to = ln-proper p q n g .ordered };
+      exact = λ _ _. record { from = ≤q-refl _; to = ln-proper (le-trans p q) p n g .ordered };
       within = λ d. absurd (r (d .small));
     }
     go (yes p) (no q) r = record { point = zeroQ; exact = λ _ h. absurd (q h); within = λ d. absurd (q (d .order)) }
@@ -78,7 +78,10 @@ module _ (n : ℕ) (g : 1 ≤ n) where
   picked : Picked n points
   unfolding eval
   picked = record {
-    lnIn = λ a b ha hb. elim (decLe b a) [ yes h ↦ rw (ordered h) (choice n a b g .exact hb h) | no h ↦ below a b ha (omega arith) ];
+    lnIn = λ a b ha hb. elim (decLe b a) [
+      | yes h ↦ rw (ordered h) (choice n a b g .exact hb h)
+      | no h ↦ below a b ha (omega arith)
+    ];
     rootIn = λ X. rootOf-promise X .encloses .meets n g .right;
   }
     where
