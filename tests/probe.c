@@ -10,7 +10,7 @@ typedef struct {
 extern Probed probe_ln(uint64_t a, uint64_t b);
 extern uint64_t probe_root(uint64_t x);
 
-static const uint64_t limit = UINT64_C(536870912);
+static const uint64_t none = UINT64_MAX;
 
 int main(void)
 {
@@ -25,10 +25,11 @@ int main(void)
             else
                 puts("none");
         } else if (sscanf(line, "root %" SCNu64, &a) == 1) {
-            if (a < limit)
-                printf("%" PRIu64 "\n", probe_root(a));
+            uint64_t r = probe_root(a);
+            if (r != none)
+                printf("%" PRIu64 "\n", r);
             else
-                puts(probe_root(a) == 0 ? "none" : "wrong");
+                puts("none");
         } else {
             fprintf(stderr, "probe: not a question: %s", line);
             return 1;

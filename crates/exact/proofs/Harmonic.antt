@@ -78,7 +78,8 @@ pub weights-down : (r s c k : ℕ) → k + c ≤ suc s →
     2 * weights (λ (j : ℕ). r * (s - j)) c k + r * (2 * (c * k) + c * c) ≡ r * (2 * (c * s) + c)
 weights-down r s zero k h = omega arith
 weights-down r s (suc c) k h =
-    omega (arith, weights-down r s c (suc k) (omega arith), ap (λ (z : ℕ). r * z) (sub-add-cancel {n = s} {m = k} (omega arith)))
+    let e : s - k + k ≡ s = sub-add-cancel (omega arith) in
+    omega (arith, weights-down r s c (suc k) (omega arith), ap (λ (z : ℕ). r * z) e)
 
 -- ---- r terms in the place of each: the upper sum falls, and the lower sum rises
 
@@ -95,8 +96,8 @@ terms-below r k hr hk =
 terms-above : (r k : ℕ) → 1 ≤ r → pos 1 over suc k ≤q harmonic r (suc (k * r))
 terms-above r k hr =
     let n : 1 ≤ suc k * r = one-le-mul {a = suc k} (omega arith) hr in
-    ≤q-trans (over-≤ 1 r (omega arith) n (omega arith))
-    (rw (weights-one r (suc (k * r))) at (weights-below (λ (j : ℕ). 1) n r (suc (k * r)) (omega arith) (λ j p q. omega arith)))
+    let w = weights-below (λ (j : ℕ). 1) n r (suc (k * r)) (omega arith) (λ j p q. omega arith) in
+    ≤q-trans (over-≤ 1 r (omega arith) n (omega arith)) (rw (weights-one r (suc (k * r))) at w)
 
 pub finer-upper : (r c k : ℕ) → 1 ≤ r → 1 ≤ k → harmonic (c * r) (k * r) ≤q harmonic c k
 unfolding harmonic

@@ -2,7 +2,7 @@
 -- by one number, and give ends that enclose the logarithm.
 use mathlib.Core.Path.{_≡_, ap}
 use Prim.Native.Nat.{ℕ, zero, suc, _+_, _*_, _-_, _≤_, _<_}
-use native.Mathlib.Nat.{le-of-lt, mul-le-mul-right, one-le-mul, sub-add-cancel, sub-self}
+use native.Mathlib.Nat.{le-of-lt, le-trans, mul-le-mul-right, one-le-mul, sub-add-cancel, sub-self}
 use native.Mathlib.Decide.{decLe}
 use native.Mathlib.Omega.{arith}
 use borrow.Author.Tests.{le-leb, lt-leb}
@@ -142,7 +142,7 @@ module _ {a b : ℕ} (hb : 1 ≤ b) (hab : b ≤ a) where
   pub encloses-ln : {l h : ℕ} → l ≤ h → Bounds 1_000_000_000 l h a b → Encloses (ends (pos l) (pos h)) (ln a b)
   unfolding eval Defined ends units
   encloses-ln {l} {h} o p = record {
-    defined = λ n g. tt;
+    defined = λ n g. (le-trans hb hab, hb);
     meets = λ n g.
         ends-meet (record { ordered = over-≤ l h (omega arith) (omega arith) (omega arith) }) (ordered-proper n g)
         (rw (ordered-pair n) (p .lower n g)) (rw (ordered-pair n) (p .upper n g));

@@ -24,6 +24,12 @@ in-within w h = record { from = ≤q-trans (w .lower) (h .from); to = ≤q-trans
 pub in-proper : {x : Fraction} {P : Pair} → x ∈ P → Proper P
 in-proper h = record { ordered = ≤q-trans (h .from) (h .to) }
 
+pub low-in : {P : Pair} → Proper P → P .low ∈ P
+low-in {P} p = record { from = ≤q-refl (P .low); to = p .ordered }
+
+high-in : {P : Pair} → Proper P → P .high ∈ P
+high-in {P} p = record { from = p .ordered; to = ≤q-refl (P .high) }
+
 pub in-add : {x y : Fraction} {P Q : Pair} → x ∈ P → y ∈ Q → x +q y ∈ P +p Q
 unfolding _+p_
 in-add h k = record { from = add-mono (h .from) (k .from); to = add-mono (h .to) (k .to) }
@@ -94,19 +100,30 @@ reached-above : {x y : Fraction} {P Q : Pair} → x ∈ P → y ∈ Q → y <q x
 unfolding reachesAbove
 reached-above h k g = <q-≤q-trans (≤q-<q-trans (k .from) g) (h .to) .lt
 
-cond-upTo : (c e : Bool) (A B : Pair) {z : Fraction} → T c → z ∈ A → z ∈ cond c (cond e (hull A B) A) B
-cond-upTo true true A B t h = in-hull-left B h
-cond-upTo true false A B t h = h
+-- and only then
+pub upTo-reached : {P Q : Pair} → Proper P → Proper Q → T (reachesUpTo P Q) →
+    (x : Fraction) × (y : Fraction) × (x ∈ P) × (y ∈ Q) × (x ≤q y)
+unfolding reachesUpTo
+upTo-reached {P} {Q} p q t = (P .low, Q .high, low-in p, high-in q, record { le = t })
+
+pub above-reached : {P Q : Pair} → Proper P → Proper Q → T (reachesAbove P Q) →
+    (x : Fraction) × (y : Fraction) × (x ∈ P) × (y ∈ Q) × (y <q x)
+unfolding reachesAbove
+above-reached {P} {Q} p q t = (P .high, Q .low, high-in p, low-in q, record { lt = t })
+
+cond-upTo : (c e : Bool) (A B : Pair) {z : Fraction} → T c → (T c → z ∈ A) → z ∈ cond c (cond e (hull A B) A) B
+cond-upTo true true A B t h = in-hull-left B (h t)
+cond-upTo true false A B t h = h t
 cond-upTo false e A B t h = absurd t
 
-cond-above : (c e : Bool) (A B : Pair) {z : Fraction} → T e → z ∈ B → z ∈ cond c (cond e (hull A B) A) B
-cond-above true true A B t h = in-hull-right A h
+cond-above : (c e : Bool) (A B : Pair) {z : Fraction} → T e → (T e → z ∈ B) → z ∈ cond c (cond e (hull A B) A) B
+cond-above true true A B t h = in-hull-right A (h t)
 cond-above true false A B t h = absurd t
-cond-above false e A B t h = h
+cond-above false e A B t h = h t
 
--- z where x is up to y, else w
-pub in-branch : {x y z w : Fraction} {P Q A B : Pair} → x ∈ P → y ∈ Q → z ∈ A → w ∈ B →
-    cond (leQ x y) z w ∈ branch P Q A B
+-- z where x is up to y, else w: only a branch that is reached need hold its point
+pub in-branch : {x y z w : Fraction} {P Q A B : Pair} → x ∈ P → y ∈ Q →
+    (T (reachesUpTo P Q) → z ∈ A) → (T (reachesAbove P Q) → w ∈ B) → cond (leQ x y) z w ∈ branch P Q A B
 unfolding branch
 in-branch {x} {y} {z} {w} {P} {Q} {A} {B} h k i j = go (leQ x y) refl
   where
@@ -146,14 +163,11 @@ module _ {P P' Q Q' : Pair} (m : Meets P P') (k : Meets Q Q') where
 
   pub meets-branch : {A A' B B' : Pair} → Meets A A' → Meets B B' → Meets (branch P Q A B) (branch P' Q' A' B')
   meets-branch i j =
-      at (cond (leQ (m .point) (k .point)) (i .point) (j .point)) (in-branch (m .left) (k .left) (i .left) (j .left))
-      (in-branch (m .right) (k .right) (i .right) (j .right))
+      at (cond (leQ (m .point) (k .point)) (i .point) (j .point))
+      (in-branch (m .left) (k .left) (λ t. i .left) (λ t. j .left))
+      (in-branch (m .right) (k .right) (λ t. i .right) (λ t. j .right))
 
--- ---- products
-
-pub proper-mul : (P Q : Pair) → Proper (P *p Q)
-unfolding _*p_
-proper-mul P Q = in-proper (in-first _ _ _ _)
+-- ---- products of what is above zero
 
 above-high : {P : Pair} → Proper P → AboveZero P → zeroQ <q P .high
 above-high p z = <q-≤q-trans (z .above) (p .ordered)

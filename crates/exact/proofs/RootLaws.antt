@@ -6,10 +6,8 @@ use native.Mathlib.Nat.{mul-le-mul, mul-le-mul-right, one-le-mul}
 use native.Mathlib.Decide.{decLe}
 use native.Mathlib.Omega.{arith}
 use lib.Dec.{T, leb, leb→le, nleb→lt}
-use lib.IntN.{pos}
-use Rattle.exact.specs.Fraction.{_over_}
 use Rattle.exact.specs.Pair.{Proper}
-use Rattle.exact.specs.Root.{greatest, wholeRoot, stepOf, rootPair}
+use Rattle.exact.specs.Root.{greatest, wholeRoot, rootValues, rootPair}
 use Rattle.exact.specs.Formula.{root, eval, Defined, Encloses}
 use Rattle.exact.proofs.PairLaws.{ends-meet}
 use Rattle.exact.proofs.Harmonic.{over-≤}
@@ -22,9 +20,12 @@ pub record IsRoot (m k : ℕ) : Type 0 where
 greatest-is : (m k : ℕ) → m < suc k * suc k → IsRoot m (greatest m k)
 unfolding greatest
 greatest-is m zero h = record { low = omega arith; high = h }
-greatest-is m (suc k) h = go (leb (suc k * suc k) m) (leb→le (suc k * suc k) m) (λ t. greatest-is m k (nleb→lt (suc k * suc k) m t))
+greatest-is m (suc k) h =
+    let s : ℕ = suc k * suc k in
+    go (leb s m) (leb→le s m) (λ t. greatest-is m k (nleb→lt s m t))
   where
-    go : (c : Bool) → (T c → suc k * suc k ≤ m) → (T (not c) → IsRoot m (greatest m k)) → IsRoot m (cond c (suc k) (greatest m k))
+    go : (c : Bool) → (T c → suc k * suc k ≤ m) → (T (not c) → IsRoot m (greatest m k)) →
+        IsRoot m (cond c (suc k) (greatest m k))
     go true f g = record { low = f tt; high = h }
     go false f g = g tt
 
@@ -39,7 +40,9 @@ root-order a b h = elim (decLe b a) [ yes p ↦ absurd (omega (arith, mul-le-mul
 -- it is the only one
 pub root-unique : {m j k : ℕ} → IsRoot m j → IsRoot m k → j ≡ k
 root-unique {m} {j} {k} p q =
-    omega (arith, root-order j (suc k) (omega (arith, p .low, q .high)), root-order k (suc j) (omega (arith, q .low, p .high)))
+    let a = root-order j (suc k) (omega (arith, p .low, q .high)) in
+    let b = root-order k (suc j) (omega (arith, q .low, p .high)) in
+    omega (arith, a, b)
 
 pub root-below : {m k : ℕ} (b : ℕ) → IsRoot m k → m < b * b → k < b
 root-below {m} {k} b r h = root-order k b (omega (arith, r .low))
@@ -51,17 +54,17 @@ squares-cross X m n k s hm p q = omega (arith, mul-le-mul-right (n * n) p, mul-l
 roots-cross : (X m n : ℕ) {k j : ℕ} → 1 ≤ m → IsRoot (X * (m * m)) k → IsRoot (X * (n * n)) j → k * n < suc j * m
 roots-cross X m n {k} {j} hm p q = root-order (k * n) (suc j * m) (squares-cross X m n k (suc j) hm (p .low) (q .high))
 
-pub step-proper : (n k : ℕ) → 1 ≤ n → Proper (stepOf n k)
-unfolding stepOf
-step-proper n k h = record { ordered = over-≤ _ _ h h (omega arith) }
+pub values-proper : (n k : ℕ) → 1 ≤ n → Proper (rootValues n k)
+unfolding rootValues
+values-proper n k h = record { ordered = over-≤ _ _ h h (omega arith) }
 
-pub encloses-root : (X m : ℕ) {k : ℕ} → 1 ≤ m → IsRoot (X * (m * m)) k → Encloses (stepOf m k) (root X)
-unfolding eval Defined rootPair stepOf
+pub encloses-root : (X m : ℕ) {k : ℕ} → 1 ≤ m → IsRoot (X * (m * m)) k → Encloses (rootValues m k) (root X)
+unfolding eval Defined rootPair rootValues
 encloses-root X m {k} hm r = record {
   defined = λ n g. tt;
   meets = λ n g.
       let s : IsRoot (X * (n * n)) (wholeRoot (X * (n * n))) = wholeRoot-is (X * (n * n)) in
-      ends-meet (step-proper m k hm) (step-proper n _ g)
+      ends-meet (values-proper m k hm) (values-proper n _ g)
       (over-≤ _ _ hm g (omega (arith, roots-cross X m n hm r s)))
       (over-≤ _ _ g hm (omega (arith, roots-cross X n m g s r)));
 }

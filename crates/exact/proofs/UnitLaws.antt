@@ -1,4 +1,5 @@
--- Values in units. A value lies from one difference of natural numbers of units to another; each rule leaves facts on naturals alone.
+-- Values in units. A value lies from one difference of natural numbers of units to another, and each rule leaves facts
+-- on natural numbers alone.
 use mathlib.Core.Path.{_≡_}
 use Prim.Native.Nat.{ℕ, _+_, _*_, _≤_}
 use native.Mathlib.Omega.{arith}
@@ -7,12 +8,14 @@ use Rattle.signed.proofs.Whole.{sub-is, sub-zero}
 use Rattle.exact.specs.Fraction.{Fraction, _≤q_, _+q_, negQ, _-q_, _*q_}
 use Rattle.exact.specs.Pair.{_∈_}
 use Rattle.exact.specs.Formula.{units, ends}
-use Rattle.exact.proofs.FractionLaws.{Is, le-of, add-Is, mul-Is, neg-Is, over-Is, ≤q-trans, add-mono, sub-mono, neg-anti, upward, mul-between-right, between-low, between-high}
+use Rattle.exact.proofs.FractionLaws.{Is, le-of, add-Is, mul-Is, neg-Is, over-Is, ≤q-trans, add-mono, neg-anti, upward, mul-between-right, between-low, between-high}
 
 -- p − q units
 pub units-Is : (p q : ℕ) → Is (units (subℕ p q)) p q 1_000_000_000
 unfolding units
-units-Is p q = record { value = omega (arith, over-Is (subℕ p q) 1_000_000_000 (omega arith) .value, sub-is p q); scale = over-Is (subℕ p q) 1_000_000_000 (omega arith) .scale }
+units-Is p q =
+    let i = over-Is (subℕ p q) 1_000_000_000 (omega arith) in
+    record { value = omega (arith, i .value, sub-is p q); scale = i .scale }
 
 -- x lies from lu − ld to hu − hd units
 pub record Lies (x : Fraction) (lu ld hu hd : ℕ) : Type 0 where
@@ -35,7 +38,8 @@ lies-wider {lu = lu} {ld} {hu} {hd} h lu' ld' hu' hd' p q = record {
 }
 
 -- a stated number (u − v) / d that is the whole number p − q of units
-pub lies-stated : {x : Fraction} {u v d : ℕ} → Is x u v d → (p q : ℕ) → p * d + v * 1_000_000_000 ≡ u * 1_000_000_000 + q * d → Lies x p q p q
+pub lies-stated : {x : Fraction} {u v d : ℕ} → Is x u v d → (p q : ℕ) →
+    p * d + v * 1_000_000_000 ≡ u * 1_000_000_000 + q * d → Lies x p q p q
 lies-stated i p q e = record { from = le-of (units-Is p q) i (omega arith); to = le-of i (units-Is p q) (omega arith) }
 
 pub lies-negated : {x : Fraction} {lu ld hu hd : ℕ} → Lies x lu ld hu hd → Lies (negQ x) hd hu ld lu
@@ -47,8 +51,12 @@ lies-negated {lu = lu} {ld} {hu} {hd} h = record {
 module _ {x y : Fraction} {a a' b b' c c' d d' : ℕ} (h : Lies x a a' b b') (k : Lies y c c' d d') where
   pub lies-sum : Lies (x +q y) (a + c) (a' + c') (b + d) (b' + d')
   lies-sum = record {
-    from = ≤q-trans (le-of (units-Is (a + c) (a' + c')) (add-Is (units-Is a a') (units-Is c c')) (omega arith)) (add-mono (h .from) (k .from));
-    to = ≤q-trans (add-mono (h .to) (k .to)) (le-of (add-Is (units-Is b b') (units-Is d d')) (units-Is (b + d) (b' + d')) (omega arith));
+    from =
+        ≤q-trans (le-of (units-Is (a + c) (a' + c')) (add-Is (units-Is a a') (units-Is c c')) (omega arith))
+        (add-mono (h .from) (k .from));
+    to =
+        ≤q-trans (add-mono (h .to) (k .to))
+        (le-of (add-Is (units-Is b b') (units-Is d d')) (units-Is (b + d) (b' + d')) (omega arith));
   }
 
   pub lies-difference : Lies (x -q y) (a + d') (a' + d) (b + c') (b' + c)
@@ -77,7 +85,11 @@ module _ {c x : Fraction} {u v s a a' b b' : ℕ} (i : Is c u v s) (k : Lies x a
   at-most : (e e' : ℕ) → AtMost u v s e e' hu hd → c *q units (subℕ e e') ≤q units (subℕ hu hd)
   at-most e e' h = le-of (mul-Is i (units-Is e e')) (units-Is hu hd) (omega arith)
 
-  pub lies-multiple : AtLeast u v s a a' lu ld → AtLeast u v s b b' lu ld → AtMost u v s a a' hu hd → AtMost u v s b b' hu hd → Lies (c *q x) lu ld hu hd
+  pub lies-multiple : AtLeast u v s a a' lu ld → AtLeast u v s b b' lu ld →
+      AtMost u v s a a' hu hd → AtMost u v s b b' hu hd → Lies (c *q x) lu ld hu hd
   lies-multiple p q p' q' =
       let m = mul-between-right c (upward (k .from) (k .to)) in
-      record { from = between-low m (at-least a a' p) (at-least b b' q); to = between-high m (at-most a a' p') (at-most b b' q') }
+      record {
+        from = between-low m (at-least a a' p) (at-least b b' q);
+        to = between-high m (at-most a a' p') (at-most b b' q');
+      }

@@ -1,4 +1,5 @@
--- Formulas, the pair of each at fineness n, and what it is that two ends enclose one. Document 01, 'What the numbers mean'.
+-- Formulas, the pair of each at fineness n, and what it is that two ends enclose one.
+-- Document 01, 'What the numbers mean'.
 use Prim.Native.Nat.{ℕ, _≤_}
 use lib.Dec.{T}
 use lib.IntN.{ℤ}
@@ -9,6 +10,7 @@ use Rattle.exact.specs.Root.{rootPair}
 
 infixl 65 _⊕_ _⊖_
 infixl 70 _⊗_ _⊘_
+-- "A formula": what the models' equations are written in
 pub data Formula : Type 0 where
   -- "a stated number"
   stated : Fraction → Formula
@@ -35,19 +37,21 @@ eval n (e ⊗ f) = eval n e *p eval n f
 eval n (e ⊘ f) = eval n e /p eval n f
 eval n (ifUpTo e f A B) = branch (eval n e) (eval n f) (eval n A) (eval n B)
 
--- every divisor that is worked out at fineness n is "a pair above zero"
+-- at fineness n every divisor that is worked out is "a pair above zero", and logarithms are of "whole a .. b ≥ 1"
 unfoldable pub Defined : ℕ → Formula → Type 0
 Defined n (stated x) = Unit {0}
-Defined n (ln a b) = Unit {0}
+Defined n (ln a b) = (1 ≤ a) × (1 ≤ b)
 Defined n (root X) = Unit {0}
 Defined n (e ⊕ f) = Defined n e × Defined n f
 Defined n (e ⊖ f) = Defined n e × Defined n f
 Defined n (e ⊗ f) = Defined n e × Defined n f
 Defined n (e ⊘ f) = Defined n e × Defined n f × AboveZero (eval n f)
 Defined n (ifUpTo e f A B) =
-    Defined n e × Defined n f × (T (reachesUpTo (eval n e) (eval n f)) → Defined n A) × (T (reachesAbove (eval n e) (eval n f)) → Defined n B)
+    Defined n e × Defined n f × (T (reachesUpTo (eval n e) (eval n f)) → Defined n A) ×
+    (T (reachesAbove (eval n e) (eval n f)) → Defined n B)
 
--- "An answer encloses a formula if at every n some point lies both from its low end to its high end and within the formula's pair"
+-- "An answer encloses a formula if at every n some point lies both from its low end to its high end and within the
+-- formula's pair, ends included"; n is at least 1, and P has the answer's ends
 pub record Encloses (P : Pair) (e : Formula) : Type 0 where
   pub defined : (n : ℕ) → 1 ≤ n → Defined n e
   pub meets : (n : ℕ) → 1 ≤ n → Meets P (eval n e)

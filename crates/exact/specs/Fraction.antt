@@ -1,5 +1,5 @@
--- Exact fractions. Document 01, 'What the numbers mean': "A fraction is a signed whole number over a whole number of at least 1,
--- and two are equal or in order as their cross products are."
+-- Exact fractions. Document 01, 'What the numbers mean': "A fraction is a signed whole number over a whole number of at
+-- least 1, and two are equal or in order as their cross products are."
 use mathlib.Core.Path.{_≡_}
 use mathlib.Core.Bool.{Bool, not, cond}
 use Prim.Native.Nat.{ℕ, zero, suc, _*_, _≤_, zero-le, suc-le-suc}
@@ -8,17 +8,19 @@ use lib.Dec.{T}
 use lib.IntN.{ℤ, pos, negsuc, negℤ, _+ℤ_, _*ℤ_}
 use lib.Signed.{leZ}
 
+-- "a signed whole number over a whole number of at least 1"
 pub record Fraction : Type 0 where
   pub num : ℤ
   pub den : ℕ
   pub positive : 1 ≤ den
 
 infix 80 _over_
--- z / d, for d of at least 1 (over 0, which nothing uses, it is 0)
+-- z / d, for d of at least 1. (Over 0 it is 0: only formulas that are not `Defined`, and fineness 0, come to that.)
 unfoldable pub _over_ : ℤ → ℕ → Fraction
 z over zero = record { num = pos 0; den = 1; positive = suc-le-suc zero-le }
 z over suc d = record { num = z; den = suc d; positive = suc-le-suc zero-le }
 
+-- 0
 unfoldable pub zeroQ : Fraction
 zeroQ = pos 0 over 1
 
@@ -57,7 +59,7 @@ x -q y = x +q negQ y
 unfoldable pub _*q_ : Fraction → Fraction → Fraction
 x *q y = record { num = x .num *ℤ y .num; den = x .den * y .den; positive = mul-pos (x .positive) (y .positive) }
 
--- d / z, where z is above zero (else 0, which nothing uses)
+-- d / z, for z above zero. (Else it is 0: no formula that is `Defined` comes to that.)
 unfoldable pub flip : ℤ → ℕ → Fraction
 flip (pos n) d = pos d over n
 flip (negsuc n) d = zeroQ

@@ -1,5 +1,5 @@
--- The logarithm's two sums. Document 01, 'What the numbers mean': "For whole a ≥ b ≥ 1 and fineness n ≥ 1, ln(a/b) has the lower sum
--- of 1/k for k from bn + 1 to an, and the upper sum of 1/k for k from bn to an − 1. Equal a and b give 0 and 0."
+-- The logarithm's two sums. Document 01, 'What the numbers mean': "For whole a ≥ b ≥ 1 and fineness n ≥ 1, ln(a/b) has the
+-- lower sum of 1/k for k from bn + 1 to an, and the upper sum of 1/k for k from bn to an − 1. Equal a and b give 0 and 0."
 use mathlib.Core.Bool.{cond}
 use Prim.Native.Nat.{ℕ, zero, suc, _*_, _-_}
 use lib.Dec.{leb}

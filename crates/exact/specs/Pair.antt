@@ -1,7 +1,9 @@
--- Pairs of fractions and their operations. Document 01, 'What the numbers mean': "A formula at fineness n is worked out over such pairs".
+-- Pairs of fractions and their operations.
+-- Document 01, 'What the numbers mean': "A formula at fineness n is worked out over such pairs".
 use mathlib.Core.Bool.{Bool, not, cond}
 use Rattle.exact.specs.Fraction.{Fraction, leQ, _≤q_, _<q_, _+q_, _-q_, _*q_, _/q_, zeroQ, minQ, maxQ}
 
+-- a low end and a high end
 pub record Pair : Type 0 where
   pub low : Fraction
   pub high : Fraction
@@ -18,7 +20,7 @@ pub record Meets (P Q : Pair) : Type 0 where
   pub left : point ∈ P
   pub right : point ∈ Q
 
--- the low end is at most the high end
+-- the low end is at most the high end, as in every pair of a formula that is `Defined`
 pub record Proper (P : Pair) : Type 0 where
   pub ordered : P .low ≤q P .high
 
@@ -56,10 +58,11 @@ P /p Q = span4 (P .low /q Q .low) (P .low /q Q .high) (P .high /q Q .low) (P .hi
 unfoldable pub hull : Pair → Pair → Pair
 hull P Q = record { low = minQ (P .low) (Q .low); high = maxQ (P .high) (Q .high) }
 
--- "A branch is reached if points of the compared pairs meet its condition": P up to Q, and P above Q
+-- "A branch is reached if points of the compared pairs meet its condition": here, some point of P is up to some point of Q
 unfoldable pub reachesUpTo : Pair → Pair → Bool
 reachesUpTo P Q = leQ (P .low) (Q .high)
 
+-- and here, some point of P is above some point of Q
 unfoldable pub reachesAbove : Pair → Pair → Bool
 reachesAbove P Q = not (leQ (P .high) (Q .low))
 

@@ -1,5 +1,5 @@
--- The root's two values. Document 01, 'What the numbers mean': "A root of whole X has the lower value k/n, k the greatest whole number
--- with k² ≤ X × n², and the upper value (k + 1)/n."
+-- The root's two values. Document 01, 'What the numbers mean': "A root of whole X has the lower value k/n, k the greatest
+-- whole number with k² ≤ X × n², and the upper value (k + 1)/n."
 use mathlib.Core.Bool.{cond}
 use Prim.Native.Nat.{ℕ, zero, suc, _*_}
 use lib.Dec.{leb}
@@ -16,10 +16,10 @@ greatest m (suc k) = cond (leb (suc k * suc k) m) (suc k) (greatest m k)
 unfoldable pub wholeRoot : ℕ → ℕ
 wholeRoot m = greatest m m
 
--- from k/n to (k + 1)/n
-unfoldable pub stepOf : ℕ → ℕ → Pair
-stepOf n k = record { low = pos k over n; high = pos (suc k) over n }
+-- "the lower value k/n .. and the upper value (k + 1)/n"
+unfoldable pub rootValues : ℕ → ℕ → Pair
+rootValues n k = record { low = pos k over n; high = pos (suc k) over n }
 
 -- the pair of √X at fineness n
 unfoldable pub rootPair : ℕ → ℕ → Pair
-rootPair n X = stepOf n (wholeRoot (X * (n * n)))
+rootPair n X = rootValues n (wholeRoot (X * (n * n)))

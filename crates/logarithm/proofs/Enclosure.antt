@@ -12,12 +12,13 @@ use lib.IntN.{pos}
 use Rattle.exact.specs.Fraction.{Fraction, zeroQ, negQ}
 use Rattle.exact.specs.Pair.{Pair, _∈_}
 use Rattle.exact.specs.Logarithm.{lnPair}
-use Rattle.exact.specs.Root.{stepOf}
+use Rattle.exact.specs.Root.{rootValues}
 use Rattle.exact.specs.Formula.{Formula, eval, ends, Encloses}
 use Rattle.exact.proofs.FractionLaws.{≤q-refl, neg-anti}
 use Rattle.exact.proofs.LogarithmLaws.{ln-proper, ln-flipped}
 use Rattle.exact.proofs.Points.{Points, value, Picked, Sound, encloses-by}
-use Rattle.logarithm.specs.Evaluation.{LnDomain, lnOf, rootFineness, rootOf}
+use Rattle.logarithm.specs.Promise.{LnDomain, rootFineness}
+use Rattle.logarithm.specs.Evaluation.{lnOf, rootOf}
 use Rattle.logarithm.proofs.Laws.{lnOf-promise, rootOf-promise}
 
 -- the engine's ends of a logarithm
@@ -28,7 +29,7 @@ lnEnds a b = ends (pos (lnOf a b .low)) (pos (lnOf a b .high))
 pub record Known (σ : Points) : Type 0 where
   pub ln-within : {a b : ℕ} → LnDomain a b → σ .lnAt a b ∈ lnEnds a b
   pub ln-negated : {a b : ℕ} → a < b → σ .lnAt a b ≡ negQ (σ .lnAt b a)
-  pub root-within : (X : ℕ) → σ .rootAt X ∈ stepOf rootFineness (rootOf X)
+  pub root-within : (X : ℕ) → σ .rootAt X ∈ rootValues rootFineness (rootOf X)
 
 -- ---- at fineness n such points are found
 
@@ -44,7 +45,7 @@ choice n a b g = go (decLe 1 b) (decLe b a) (decLt a (2 ^ 29))
   where
     go : Dec (1 ≤ b) → Dec (b ≤ a) → Dec (a < 2 ^ 29) → Choice n a b
     go (yes p) (yes q) (yes r) =
-        let m = lnOf-promise (record { some = p; order = q; small = r }) .encloses .meets n g in
+        let m = lnOf-promise (record { least = p; order = q; small = r }) .encloses .meets n g in
         record { point = m .point; exact = λ _ _. m .right; within = λ _. m .left }
     go (yes p) (yes q) (no r) = record {
       point = lnPair n a b .low;
@@ -52,7 +53,7 @@ choice n a b g = go (decLe 1 b) (decLe b a) (decLt a (2 ^ 29))
       within = λ d. absurd (r (d .small));
     }
     go (yes p) (no q) r = record { point = zeroQ; exact = λ _ h. absurd (q h); within = λ d. absurd (q (d .order)) }
-    go (no p) q r = record { point = zeroQ; exact = λ h _. absurd (p h); within = λ d. absurd (p (d .some)) }
+    go (no p) q r = record { point = zeroQ; exact = λ h _. absurd (p h); within = λ d. absurd (p (d .least)) }
 
 module _ (n : ℕ) (g : 1 ≤ n) where
   abbrev points : Points

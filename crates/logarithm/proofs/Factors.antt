@@ -1,5 +1,4 @@
 -- What the tables' entries do: the coarse one brings a mantissa y near 2^47, the fine one brings that near 2^61.
-use mathlib.Core.Bool.{_&&_}
 use mathlib.Core.List.{List}
 use Prim.Native.Nat.{ℕ, _+_, _*_, _-_, _/_, _^_, _≤_, _<_}
 use native.Mathlib.Nat.{mul-le-mul-right, zero-add}
@@ -40,11 +39,12 @@ in-place cells top most ws t d i h = go (getD ws i d) (rw zero-add at (every-at 
         }
 
 -- y is from (cells + i) D to below (cells + i + 1) D
-spread : (D cells top most i y : ℕ) (w : Factor) → InPlace cells top most i w → (cells + i) * D ≤ y → y < (cells + i + 1) * D →
-    (top * cells * D ≤ y * w .by) × (y * w .by < most * D)
+spread : (D cells top most i y : ℕ) (w : Factor) → InPlace cells top most i w →
+    (cells + i) * D ≤ y → y < (cells + i + 1) * D → (top * cells * D ≤ y * w .by) × (y * w .by < most * D)
 spread D cells top most i y w p g h = go (w .by) (p .some) (p .low) (p .high)
   where
-    go : (b : ℕ) → 1 ≤ b → top * cells ≤ b * (cells + i) → b * (cells + i + 1) ≤ most → (top * cells * D ≤ y * b) × (y * b < most * D)
+    go : (b : ℕ) → 1 ≤ b → top * cells ≤ b * (cells + i) → b * (cells + i + 1) ≤ most →
+        (top * cells * D ≤ y * b) × (y * b < most * D)
     go b s l m = (
       omega (arith, mul-le-mul-right b g, mul-le-mul-right D l),
       omega (arith, mul-le-mul-right b h, mul-le-mul-right D m),
@@ -72,7 +72,14 @@ coarse-at y p q = go (y / 2 ^ 29 - 64) (omega arith) (omega arith) (omega arith)
     go i h g k =
         let w = in-place 64 4096 266_240 coarse coarse-places _ i (omega arith) in
         let s = spread (2 ^ 29) 64 4096 266_240 i y _ w g k in
-        record { entry = coarse-entry i h; some = w .some; up = w .up; small = w .small; least = omega arith; most = omega arith }
+        record {
+          entry = coarse-entry i h;
+          some = w .some;
+          up = w .up;
+          small = w .small;
+          least = omega arith;
+          most = omega arith;
+        }
 
 pub record Fine (w : ℕ) (f : Factor) : Type 0 where
   pub entry : Entry 16_384 2 f

@@ -1,14 +1,22 @@
--- What `lnOf` and `rootOf` promise: they enclose at every fineness, and are narrow; and the sizes that callers rest on.
+-- What `lnOf` and `rootOf` promise (specs/Promise), and the order and the sizes that callers rest on.
 use mathlib.Core.Path.{_≡_}
 use mathlib.Core.Bool.{Bool, true, false, cond}
-use Prim.Native.Nat.{ℕ, _+_, _*_, _/_, _^_, _≤_, _<_}
+use Prim.Native.Nat.{ℕ, suc, _+_, _*_, _/_, _^_, _≤_, _<_}
 use native.Mathlib.Omega.{arith}
+use borrow.Author.Tests.{eq-eqb}
 use lib.Dec.{T, eqb, eqb→eq}
+use lib.IntN.{pos}
+use Rattle.signed.proofs.Whole.{up, down}
+use Rattle.exact.specs.Fraction.{_over_, _<q_, _-q_, _*q_}
+use Rattle.exact.specs.Root.{rootValues}
+use Rattle.exact.specs.Formula.{units}
+use Rattle.exact.proofs.FractionLaws.{lt-of, add-Is, mul-Is, neg-Is, over-Is}
 use Rattle.exact.proofs.LogarithmLaws.{Bounds, bounds-wider, bounds-same, encloses-ln}
 use Rattle.exact.proofs.RootLaws.{wholeRoot-is, root-below, encloses-root}
 use Rattle.logarithm.specs.declared.Ends.{Ends}
-use Rattle.logarithm.specs.Evaluation.{LnDomain, scaledOf, missing, scaledLnOf, lnOf, rootFineness, rootOf}
-use Rattle.logarithm.specs.Promise.{lnWidth, LnEnds, RootEnds}
+use Rattle.logarithm.specs.Promise.{LnDomain, rootFineness}
+use Rattle.logarithm.specs.Evaluation.{scaledOf, slack, scaledLnOf, lnOf, rootOf}
+use Rattle.logarithm.specs.Promise.{lnWidth, LnEnds, width, RootEnds}
 use Rattle.logarithm.proofs.Walk.{U}
 use Rattle.logarithm.proofs.Octave.{scales}
 use Rattle.logarithm.proofs.Sum.{mantissa-ln, total}
@@ -22,7 +30,7 @@ record Rounded (a b : ℕ) (e : Ends) : Type 0 where
 
 -- a sum in units of 1/U, to 23 for each octave and 209, rounded outward to units
 rounded : (sum k : ℕ) {a b : ℕ} → k ≤ 28 → sum ≤ 86_000_000_000_000 → Bounds U sum (sum + 23 * k + 209) a b →
-    Rounded a b (record { low = sum / 4096; high = (sum + 23 * k + missing) / 4096 })
+    Rounded a b (record { low = sum / 4096; high = (sum + 23 * k + slack) / 4096 })
 rounded sum k few small b = record {
   bounds = bounds-wider 1_000_000_000 _ _ (omega arith) (omega arith) (omega arith) (omega arith) b;
   order = omega arith;
@@ -35,21 +43,42 @@ unfolding lnOf scaledLnOf
 lnOf-rounded {a} {b} d = go (eqb a b) (eqb→eq a b)
   where
     go : (c : Bool) → (T c → a ≡ b) → Rounded a b (cond c (record { low = 0; high = 0 }) (scaledLnOf (scaledOf a b)))
-    go true e = rw (e tt) (record { bounds = bounds-same (d .some) (omega arith); order = omega arith; narrow = omega arith; small = omega arith })
+    go true e = rw (e tt) (record {
+      bounds = bounds-same (d .least) (omega arith);
+      order = omega arith;
+      narrow = omega arith;
+      small = omega arith;
+    })
     go false e =
         let n = scales d .normal in
         rounded _ _ (n .few) (omega (arith, n .few, mantissa-ln (n .mantissa) .small)) (total d)
 
 -- ---- the promises
 
+lnOf-same : {a b : ℕ} → a ≡ b → lnOf a b .high ≡ 0
+unfolding lnOf
+lnOf-same {a} {b} e = simp (eq-eqb a b e)
+
 pub lnOf-promise : {a b : ℕ} → LnDomain a b → LnEnds a b (lnOf a b)
 lnOf-promise d =
     let r = lnOf-rounded d in
-    record { encloses = encloses-ln (d .some) (d .order) (r .order) (r .bounds); narrow = r .narrow }
+    record { encloses = encloses-ln (d .least) (d .order) (r .order) (r .bounds); narrow = r .narrow; same = lnOf-same }
+
+root-narrow : (k : ℕ) →
+    pos 1151 over 100_000 *q pos 1 over 100 *q width (rootValues rootFineness k) <q units (pos 1)
+unfolding width rootValues units _-q_ up down
+root-narrow k =
+    lt-of
+    (mul-Is (mul-Is (over-Is (pos 1151) 100_000 (omega arith)) (over-Is (pos 1) 100 (omega arith)))
+    (add-Is (over-Is (pos (suc k)) rootFineness (omega arith)) (neg-Is (over-Is (pos k) rootFineness (omega arith)))))
+    (over-Is (pos 1) 1_000_000_000 (omega arith)) (omega arith)
 
 pub rootOf-promise : (X : ℕ) → RootEnds X (rootOf X)
 unfolding rootOf
-rootOf-promise X = record { encloses = encloses-root X rootFineness (omega arith) (wholeRoot-is _); narrow = omega arith }
+rootOf-promise X = record {
+  encloses = encloses-root X rootFineness (omega arith) (wholeRoot-is _);
+  narrow = root-narrow _;
+}
 
 -- ---- the order and the sizes
 

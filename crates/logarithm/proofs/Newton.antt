@@ -52,13 +52,17 @@ first n h = go (leading-length 64 n (omega arith))
   where
     quotient : (m k : ℕ) → m ≤ k + suc k → k ≤ 31 → n < 2 ^ m → n / 2 ^ k < 2 ^ 32
     quotient m k g few p =
-        let q : n < 2 ^ suc k * 2 ^ k = lt-of-lt-of-le p (le-trans (pow-mono g) (le-of-eq (ap (λ (i : ℕ). 2 ^ i) (add-comm k (suc k)) ∙ pow-add 2 (suc k) k))) in
-        let s : n / 2 ^ k < 2 ^ suc k = lt-of-mul-lt-mul-right (2 ^ k) {m = n / 2 ^ k} {n = 2 ^ suc k} (lt-of-le-of-lt (div-mul-le-self n (2 ^ k)) q) in
-        lt-of-lt-of-le s (pow-mono {i = suc k} {j = 32} (omega arith))
+        let e : 2 ^ (k + suc k) ≡ 2 ^ suc k * 2 ^ k = ap (λ (i : ℕ). 2 ^ i) (add-comm k (suc k)) ∙ pow-add 2 (suc k) k in
+        let q : n < 2 ^ suc k * 2 ^ k = lt-of-lt-of-le p (le-trans (pow-mono g) (le-of-eq e)) in
+        let s : n / 2 ^ k * 2 ^ k < 2 ^ suc k * 2 ^ k = lt-of-le-of-lt (div-mul-le-self n (2 ^ k)) q in
+        lt-of-lt-of-le (lt-of-mul-lt-mul-right (2 ^ k) s) (pow-mono {i = suc k} {j = 32} (omega arith))
 
     go : (m : ℕ) × (leadingZeros 64 n + m ≡ 64) × (n < 2 ^ m) × (2 ^ m ≤ 2 * n + 1) → First n ((64 - leadingZeros 64 n) / 2)
     go (m, e, p, q) =
-        let top : m ≤ 63 = elim (decLe m 63) [ yes t ↦ t | no t ↦ absurd (omega (arith, pow-mono {i = 64} {j = m} (omega arith))) ] in
+        let top : m ≤ 63 = elim (decLe m 63) [
+          | yes t ↦ t
+          | no t ↦ absurd (omega (arith, pow-mono {i = 64} {j = m} (omega arith)))
+        ] in
         let k : ℕ = (64 - leadingZeros 64 n) / 2 in
         let few : k ≤ 31 = omega arith in
         let power : 2 ^ k ≤ 2 ^ 31 = pow-mono {i = k} {j = 31} few in

@@ -1,13 +1,14 @@
 -- The scaled number of a/b, from the leading zeros of the quotient.
-use mathlib.Core.Path.{_≡_, refl, sym, ap, _∙_}
+use mathlib.Core.Path.{_≡_, sym, ap, _∙_}
 use Prim.Native.Nat.{ℕ, suc, _+_, _*_, _-_, _/_, _^_, _≤_, _<_}
-use native.Mathlib.Nat.{mul-le-mul-left, mul-le-mul-right, div-mul-le-self, lt-div-mul-add, lt-of-mul-lt-mul-right, two-pow-succ}
+use native.Mathlib.Nat.{mul-le-mul-left, mul-le-mul-right, div-mul-le-self, lt-div-mul-add, lt-of-mul-lt-mul-right}
 use native.Mathlib.Decide.{decLe}
 use native.Mathlib.Omega.{arith}
 use lib.Count.{leadingZeros, leading-top}
 use lib.Pow.{pow-pos, pow-mono, pow-add}
 use Rattle.logarithm.specs.declared.Scaled.{Scaled}
-use Rattle.logarithm.specs.Evaluation.{LnDomain, Normal, scaledOf}
+use Rattle.logarithm.specs.Promise.{LnDomain}
+use Rattle.logarithm.specs.Evaluation.{Normal, scaledOf}
 
 -- x is from 2^k 2^35 to below 2^k 2^36, with k = 28 less the leading zeros
 record Aligned (x : ℕ) : Type 0 where
@@ -24,7 +25,10 @@ aligned x h g = go (leading-top 64 x (omega arith) g)
     go : (j : ℕ) × (leadingZeros 64 x + suc j ≡ 64) × (2 ^ j ≤ x) × (x < 2 ^ suc j) → Aligned x
     go (j, e, p, q) =
         let l : ℕ = leadingZeros 64 x in
-        let top : 35 ≤ j = elim (decLe 35 j) [ yes t ↦ t | no t ↦ absurd (omega (arith, pow-mono {i = suc j} {j = 35} (omega arith))) ] in
+        let top : 35 ≤ j = elim (decLe 35 j) [
+          | yes t ↦ t
+          | no t ↦ absurd (omega (arith, pow-mono {i = suc j} {j = 35} (omega arith)))
+        ] in
         record {
           few = omega arith;
           low = rw (powers (28 - l) 35 j (omega arith)) p;
@@ -36,14 +40,14 @@ aligned x h g = go (leading-top 64 x (omega arith) g)
 quotient-least : {a b : ℕ} → LnDomain a b → 2 ^ 35 ≤ a * 2 ^ 35 / b
 quotient-least {a} {b} d =
     let t : ℕ = a * 2 ^ 35 / b in
-    let h : 2 ^ 35 * b < suc t * b = omega (arith, d .order, lt-div-mul-add {a = a * 2 ^ 35} {b = b} (d .some)) in
+    let h : 2 ^ 35 * b < suc t * b = omega (arith, d .order, lt-div-mul-add {a = a * 2 ^ 35} {b = b} (d .least)) in
     omega (arith, lt-of-mul-lt-mul-right b {m = 2 ^ 35} {n = suc t} h)
 
 quotient-small : {a b : ℕ} → LnDomain a b → a * 2 ^ 35 / b < 2 ^ 64
 quotient-small {a} {b} d = go (a * 2 ^ 35 / b) (div-mul-le-self (a * 2 ^ 35) b)
   where
     go : (t : ℕ) → t * b ≤ a * 2 ^ 35 → t < 2 ^ 64
-    go t h = omega (arith, d .small, mul-le-mul-left t (d .some))
+    go t h = omega (arith, d .small, mul-le-mul-left t (d .least))
 
 pub quotient-zeros : {a b : ℕ} → LnDomain a b → leadingZeros 64 (a * 2 ^ 35 / b) ≤ 28
 quotient-zeros d = aligned _ (quotient-least d) (quotient-small d) .few
@@ -57,10 +61,13 @@ pub record Scales (a b : ℕ) (s : Scaled) : Type 0 where
 pub scales : {a b : ℕ} → LnDomain a b → Scales a b (scaledOf a b)
 unfolding scaledOf
 scales {a} {b} d =
-    go (a * 2 ^ 35 / b) (28 - leadingZeros 64 (a * 2 ^ 35 / b)) (omega arith) (aligned _ (quotient-least d) (quotient-small d) .low)
-    (aligned _ (quotient-least d) (quotient-small d) .high) (div-mul-le-self (a * 2 ^ 35) b) (lt-div-mul-add {a = a * 2 ^ 35} {b = b} (d .some))
+    let x : ℕ = a * 2 ^ 35 / b in
+    let w = aligned x (quotient-least d) (quotient-small d) in
+    go x (28 - leadingZeros 64 x) (omega arith) (w .low) (w .high) (div-mul-le-self (a * 2 ^ 35) b)
+    (lt-div-mul-add {a = a * 2 ^ 35} {b = b} (d .least))
   where
-    within : (x y K : ℕ) → 1 ≤ K → K * 2 ^ 35 ≤ x → x < K * 2 ^ 36 → y * K ≤ x → x < y * K + K → (2 ^ 35 ≤ y) × (y < 2 ^ 36)
+    within : (x y K : ℕ) → 1 ≤ K → K * 2 ^ 35 ≤ x → x < K * 2 ^ 36 → y * K ≤ x → x < y * K + K →
+        (2 ^ 35 ≤ y) × (y < 2 ^ 36)
     within x y K h p q r t =
         let l : 2 ^ 35 < suc y = lt-of-mul-lt-mul-right K {m = 2 ^ 35} {n = suc y} (omega arith) in
         (omega arith, lt-of-mul-lt-mul-right K {m = y} {n = 2 ^ 36} (omega arith))
@@ -71,7 +78,8 @@ scales {a} {b} d =
     more : (x y K : ℕ) → x < y * K + K → a * 2 ^ 35 < x * b + b → 2 ^ 35 * a ≤ b * K * suc y
     more x y K p q = omega (arith, mul-le-mul-right b p)
 
-    go : (x k : ℕ) → k ≤ 28 → 2 ^ k * 2 ^ 35 ≤ x → x < 2 ^ k * 2 ^ 36 → x * b ≤ a * 2 ^ 35 → a * 2 ^ 35 < x * b + b → Scales a b (record { octave = k; mantissa = x / 2 ^ k })
+    go : (x k : ℕ) → k ≤ 28 → 2 ^ k * 2 ^ 35 ≤ x → x < 2 ^ k * 2 ^ 36 → x * b ≤ a * 2 ^ 35 → a * 2 ^ 35 < x * b + b →
+        Scales a b (record { octave = k; mantissa = x / 2 ^ k })
     go x k few p q r t =
         let below = div-mul-le-self x (2 ^ k) in
         let above = lt-div-mul-add {a = x} {b = 2 ^ k} (pow-pos k) in

@@ -1,5 +1,6 @@
--- The last arm of a match that reads a table: where a number is none of those before n, it is n or more, and the table's last entry stands.
-use mathlib.Core.Path.{_≡_, refl, sym}
+-- The last arm of a match that reads a table: a number that is none of those before n is n or more, and the table's last
+-- entry stands there.
+use mathlib.Core.Path.{_≡_, refl}
 use mathlib.Core.List.{List, [], _∷_, _++_}
 use Prim.Native.Nat.{ℕ, zero, suc, _≤_}
 use native.Mathlib.Nat.{le-of-suc-le-suc, not-suc-le-zero}

@@ -1,16 +1,17 @@
 -- The logarithm as a sum: what is left after both factors, the factors' own logarithms, the octaves.
 use mathlib.Core.Path.{_≡_}
-use Prim.Native.Nat.{ℕ, zero, suc, _+_, _*_, _-_, _/_, _^_, _≤_, _<_}
-use native.Mathlib.Nat.{mul-le-mul-left, mul-le-mul-right, one-le-mul, le-trans, zero-mul, mul-one, two-pow-succ}
+use Prim.Native.Nat.{ℕ, zero, suc, _+_, _*_, _^_, _≤_}
+use native.Mathlib.Nat.{mul-le-mul-left, mul-le-mul-right, one-le-mul, le-trans, mul-one, two-pow-succ}
 use native.Mathlib.Omega.{arith}
 use lib.Pow.{pow-pos}
 use Rattle.exact.proofs.LogarithmLaws.{Bounds, bounds-wider, bounds-same, bounds-plus, bounds-times, bounds-over}
 use Rattle.logarithm.specs.declared.Scaled.{Scaled}
 use Rattle.logarithm.specs.declared.table.Factor.{Factor}
-use Rattle.logarithm.specs.Tables.{ln2, coarseAt, fineAt}
-use Rattle.logarithm.specs.Evaluation.{LnDomain, Mantissa, nearOneOf, mantissaLnOf, scaledOf}
+use Rattle.logarithm.specs.Tables.{ln2, coarseAt}
+use Rattle.logarithm.specs.Promise.{LnDomain}
+use Rattle.logarithm.specs.Evaluation.{Mantissa, nearOneOf, mantissaLnOf, scaledOf}
 use Rattle.logarithm.proofs.Areas.{bounds-rounded}
-use Rattle.logarithm.proofs.Walk.{U, Entry}
+use Rattle.logarithm.proofs.Walk.{U}
 use Rattle.logarithm.proofs.Factors.{Coarse, Fine, coarse-entry, coarse-at, fine-at}
 use Rattle.logarithm.proofs.Remainder.{near-one, near-small}
 use Rattle.logarithm.proofs.Octave.{Scales, scales}
@@ -29,8 +30,8 @@ module _ {y : ℕ} {c f : Factor} (m : Mantissa y) (k : Coarse y c) (l : Fine (y
   brought =
       bounds-over (c .by * f .by) (one-le-mul (k .some) (l .some)) (omega arith) (m .least)
       (bounds-wider U _ _ (omega arith) (omega arith) (omega arith) (omega arith)
-      (bounds-plus U {x = nearOneOf (y * c .by * f .by)} {y = nearOneOf (y * c .by * f .by) + 64} (omega arith) (le-trans last-order second-order)
-      (rw first (l .near .least)) (rw first (near-one (l .near)))
+      (bounds-plus U {x = nearOneOf (y * c .by * f .by)} {y = nearOneOf (y * c .by * f .by) + 64} (omega arith)
+      (le-trans last-order second-order) (rw first (l .near .least)) (rw first (near-one (l .near)))
       (bounds-plus U (omega arith) last-order second-order (bounds-times (2 ^ 47) (omega arith) (l .entry))
       (rw (third, last) at (bounds-times (2 ^ 35 * f .by) (one-le-mul {a = 2 ^ 35} (omega arith) (l .some)) (k .entry))))))
     where
@@ -65,7 +66,8 @@ octaves : (k : ℕ) → Bounds U (k * ln2) (k * (ln2 + 23)) (2 ^ k) 1
 octaves zero = bounds-same (omega arith) (omega arith)
 octaves (suc k) =
     rw twice (bounds-wider U _ _ (omega arith) (omega arith) (omega arith) (omega arith)
-    (bounds-plus U (omega arith) (pow-pos k) (omega arith) (rw (mul-one (2 ^ k)) at (bounds-times (2 ^ k) (pow-pos k) one-octave)) (octaves k)))
+    (bounds-plus U (omega arith) (pow-pos k) (omega arith)
+    (rw (mul-one (2 ^ k)) at (bounds-times (2 ^ k) (pow-pos k) one-octave)) (octaves k)))
   where
     twice : 2 ^ suc k ≡ 2 ^ k * 2
     twice = omega (arith, two-pow-succ k)
@@ -77,19 +79,20 @@ module _ {a b : ℕ} (d : LnDomain a b) (s : Scaled) (w : Scales a b s) where
   base = b * 2 ^ s .octave
 
   base-some : 1 ≤ b * 2 ^ s .octave
-  base-some = one-le-mul (d .some) (pow-pos (s .octave))
+  base-some = one-le-mul (d .least) (pow-pos (s .octave))
 
   added : let x : ℕ = s .octave * ln2 + mantissaLnOf (s .mantissa) in Bounds U x (x + 23 * s .octave + 209) a b
   added =
       let y : ℕ = s .mantissa in
       let m = w .normal .mantissa in
       let n = mantissa-ln m in
-      bounds-over (2 ^ 35) (omega arith) (d .some) (d .order)
+      bounds-over (2 ^ 35) (omega arith) (d .least) (d .order)
       (bounds-wider U _ _ (omega arith) (omega arith) (omega arith) (omega arith)
       (bounds-plus U (omega arith) (le-trans third (mul-le-mul-left base (m .least))) (w .low)
-      (bounds-rounded U 120 base y (2 ^ 35 * a) (omega arith) base-some (omega (arith, m .least)) (omega (arith, m .least)) (w .low) (w .high))
+      (bounds-rounded U 120 base y (2 ^ 35 * a) (omega arith) base-some (omega (arith, m .least)) (omega (arith, m .least))
+      (w .low) (w .high))
       (bounds-plus U (omega arith) third (mul-le-mul-left base (m .least)) (bounds-times base base-some (n .bounds))
-      (rw (top, bottom) at (bounds-times (2 ^ 35 * b) (omega (arith, d .some)) (octaves (s .octave)))))))
+      (rw (top, bottom) at (bounds-times (2 ^ 35 * b) (omega (arith, d .least)) (octaves (s .octave)))))))
     where
       third : 2 ^ 35 * b ≤ b * 2 ^ s .octave * 2 ^ 35
       third = omega (arith, mul-le-mul-left b (pow-pos (s .octave)))

@@ -7,10 +7,12 @@ use Rattle.logarithm.specs.declared.table.Factor.{Factor}
 use Rattle.logarithm.specs.Tables.{ln2, coarse, fine}
 use Rattle.logarithm.proofs.Walk.{walks}
 
--- the factor at i, from 1 to top, brings what is from (cells + i)/cells to below (cells + i + 1)/cells to what is from top to below most/cells
+-- the factor at i, from 1 to top, brings what is from (cells + i)/cells to below (cells + i + 1)/cells to what is from top
+-- to below most/cells
 abbrev pub inPlace : ℕ → ℕ → ℕ → ℕ → Factor → Bool
 inPlace cells top most i w =
-    leb (top * cells) (w .by * (cells + i)) && (leb (w .by * (cells + i + 1)) most && (leb 1 (w .by) && (leb (w .by) top && leb (w .logarithm) ln2)))
+    leb (top * cells) (w .by * (cells + i)) && (leb (w .by * (cells + i + 1)) most &&
+    (leb 1 (w .by) && (leb (w .by) top && leb (w .logarithm) ln2)))
 
 pub coarse-walks : T (walks 64 4096 23 coarse 262_144 0 0)
 coarse-walks = tt

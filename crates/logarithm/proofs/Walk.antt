@@ -1,4 +1,5 @@
--- A table's logarithms, from sums of midpoint and trapezoid values down the whole numbers: one test that antt computes over the whole table.
+-- A table's logarithms, from sums of midpoint and trapezoid values down the whole numbers: one test that antt computes
+-- over the whole table.
 use mathlib.Core.Path.{_≡_}
 use mathlib.Core.Bool.{Bool, true, _&&_}
 use mathlib.Core.List.{List, [], _∷_}
@@ -43,7 +44,8 @@ step q hq = rw one-add at (areas S (lowStep q) (highStep q) 1 q (omega arith) hq
         some : 1 ≤ 2 * (suc q * q)
         some = one-le-mul {a = 2} (omega arith) (one-le-mul {a = suc q} (omega arith) hq)
 
-        go : (x : ℕ) → S * (q + q + 1) < x * (2 * (suc q * q)) + 2 * (suc q * q) → 1 * (1 + q + q) * S ≤ (x + 1) * (2 * ((1 + q) * q))
+        go : (x : ℕ) → S * (q + q + 1) < x * (2 * (suc q * q)) + 2 * (suc q * q) →
+            1 * (1 + q + q) * S ≤ (x + 1) * (2 * ((1 + q) * q))
         go x g = omega arith
 
 -- ---- c steps, from q + c down to q, added to x
@@ -52,10 +54,12 @@ abbrev steps : (ℕ → ℕ) → ℕ → ℕ → ℕ → ℕ
 steps f zero q x = x
 steps f (suc c) q x = steps f c q (x + f (q + c))
 
-steps-down : {N q : ℕ} → 1 ≤ q → (c : ℕ) {x y : ℕ} → q + c ≤ N → Bounds S x y N (q + c) → Bounds S (steps lowStep c q x) (steps highStep c q y) N q
+steps-down : {N q : ℕ} → 1 ≤ q → (c : ℕ) {x y : ℕ} → q + c ≤ N → Bounds S x y N (q + c) →
+    Bounds S (steps lowStep c q x) (steps highStep c q y) N q
 steps-down hq zero h p = rw add-zero at p
 steps-down {q = q} hq (suc c) h p =
-    steps-down hq c (omega arith) (bounds-plus S (omega arith) (omega arith) (omega arith) (rw (add-suc q c) at p) (step (q + c) (omega arith)))
+    let s = step (q + c) (omega arith) in
+    steps-down hq c (omega arith) (bounds-plus S (omega arith) (omega arith) (omega arith) (rw (add-suc q c) at p) s)
 
 -- ---- the table
 
@@ -84,10 +88,15 @@ module _ (c top δ : ℕ) where
     below : q ≤ c * top
     bounds : Bounds S x y (c * top) q
 
-  next : {q x y : ℕ} (p : ℕ) → 1 ≤ p → p ≤ q → Reached q x y → Reached p (steps lowStep (q - p) p x) (steps highStep (q - p) p y)
+  next : {q x y : ℕ} (p : ℕ) → 1 ≤ p → p ≤ q → Reached q x y →
+      Reached p (steps lowStep (q - p) p x) (steps highStep (q - p) p y)
   next {q} p h g r =
       let e : p + (q - p) ≡ q = omega arith in
-      record { some = h; below = omega (arith, r .below); bounds = steps-down h (q - p) (rw e (r .below)) (rw e (r .bounds)) }
+      record {
+        some = h;
+        below = omega (arith, r .below);
+        bounds = steps-down h (q - p) (rw e (r .below)) (rw e (r .bounds));
+      }
 
   module _ (hc : 1 ≤ c) where
     entry : {q x y : ℕ} (w : Factor) → Reached q x y → T (fits w q x y) → Entry top δ w
@@ -97,13 +106,15 @@ module _ (c top δ : ℕ) where
         let least = leb→le (w .logarithm * 1_000_000) x (and-left (leb (w .logarithm * 1_000_000) x) _ both) in
         let most = leb→le y ((w .logarithm + δ) * 1_000_000) (and-right (leb (w .logarithm * 1_000_000) x) _ both) in
         bounds-over c hc (some (w .by) (rw e at (r .some))) (le-of-mul-le-mul-left {k = c} (rw e at (r .below)) hc)
-        (bounds-wider U (w .logarithm) (w .logarithm + δ) (omega arith) (omega arith) (omega arith) (omega arith) (rw e at (r .bounds)))
+        (bounds-wider U (w .logarithm) (w .logarithm + δ) (omega arith) (omega arith) (omega arith) (omega arith)
+        (rw e at (r .bounds)))
       where
         some : (b : ℕ) → 1 ≤ c * b → 1 ≤ b
         some zero h = absurd (omega arith)
         some (suc b) h = omega arith
 
-    entries : (ws : List Factor) {q x y : ℕ} → Reached q x y → T (walks ws q x y) → (d : Factor) (k : ℕ) → k < length ws → Entry top δ (getD ws k d)
+    entries : (ws : List Factor) {q x y : ℕ} → Reached q x y → T (walks ws q x y) → (d : Factor) (k : ℕ) →
+        k < length ws → Entry top δ (getD ws k d)
     entries [] r t d k h = absurd (not-suc-le-zero h)
     entries (w ∷ []) r t d zero h = entry w r t
     entries (w ∷ []) r t d (suc k) h = absurd (not-suc-le-zero (le-of-suc-le-suc h))
@@ -115,5 +126,6 @@ module _ (c top δ : ℕ) where
         let order = leb→le (c * v .by) q (and-right (leb 1 (c * v .by)) _ near) in
         entries (v ∷ ws) (next (c * v .by) some order r) (and-right (ahead v q) _ more) d k (le-of-suc-le-suc h)
 
-    pub table-entry : (ws : List Factor) → 1 ≤ c * top → T (walks ws (c * top) 0 0) → (d : Factor) (k : ℕ) → k < length ws → Entry top δ (getD ws k d)
+    pub table-entry : (ws : List Factor) → 1 ≤ c * top → T (walks ws (c * top) 0 0) → (d : Factor) (k : ℕ) →
+        k < length ws → Entry top δ (getD ws k d)
     table-entry ws h t = entries ws (record { some = h; below = omega arith; bounds = bounds-same h (omega arith) }) t

@@ -1,3 +1,3 @@
+pub mod Promise
 pub mod Tables
 pub mod Evaluation
-pub mod Promise

@@ -1,8 +1,10 @@
-// The natural logarithm of a quotient and the square root of a whole number, each within two ends that enclose the exact value.
+// The natural logarithm of a quotient and the square root of a whole number, each by ends that enclose the exact value.
 ghost use mathlib.Core.Path.{_≡_};
 ghost use Prim.Native.Nat.{_^_, _<_};
 ghost use Rattle.exact.specs.Root.{wholeRoot};
-ghost use Rattle.logarithm.specs.Evaluation.{LnDomain, Mantissa, Normal, NearOne, scaledOf, nearOneOf, mantissaLnOf, scaledLnOf, lnOf, rootOf};
+ghost use Rattle.logarithm.specs.Promise.{LnDomain};
+ghost use Rattle.logarithm.specs.Evaluation.{Mantissa, Normal, NearOne};
+ghost use Rattle.logarithm.specs.Evaluation.{scaledOf, nearOneOf, mantissaLnOf, scaledLnOf, lnOf, rootOf};
 
 mod table;
 
@@ -31,7 +33,7 @@ fn scale(a: u64, b: u64) -> Scaled
     }
 }
 
-// ln(p/2^61) in units of 10^-9/4096, rounded down: d − d²/2 of d = p/2^61 − 1.
+// ln(p/2^61) in units of 10^-9/4096, from below: d − d²/2 of d = p/2^61 − 1.
 fn near_one(p: u64) -> u64
     requires { ⌜ NearOne p ⌝ }
     ensures { λ r. ⌜ r ≡ nearOneOf p ⌝ }
@@ -41,7 +43,7 @@ fn near_one(p: u64) -> u64
     (d - half_square) * 1_000_000_000 / 536_870_912
 }
 
-// ln(y/2^35) in units of 10^-9/4096, rounded down: two factors bring y near 1, and what is left is near 0.
+// ln(y/2^35) in units of 10^-9/4096, from below: two factors bring y near 1, and what is left is near 0.
 fn mantissa_ln(y: u64) -> u64
     requires { ⌜ Mantissa y ⌝ }
     ensures { λ r. ⌜ r ≡ mantissaLnOf y ⌝ }
@@ -65,7 +67,7 @@ fn scaled_ln(s: Scaled) -> Ends
     }
 }
 
-// ln(a/b)
+// ln(a/b), for 1 ≤ b ≤ a < 2^29. What is promised of the ends is LnEnds of specs/Promise, shown in proofs/Laws.
 pub fn ln(a: u64, b: u64) -> Ends
     requires { ⌜ LnDomain a b ⌝ }
     ensures { λ r. ⌜ r ≡ lnOf a b ⌝ }
@@ -89,7 +91,7 @@ fn whole_root(n: u64) -> u64
     s
 }
 
-// The root of x lies from r/131072 to (r + 1)/131072, r the result.
+// The root of x lies from r/131072 to (r + 1)/131072, r the result: RootEnds of specs/Promise, shown in proofs/Laws.
 pub fn root(x: u64) -> u64
     requires { ⌜ x < 2 ^ 29 ⌝ }
     ensures { λ r. ⌜ r ≡ rootOf x ⌝ }

@@ -1,4 +1,4 @@
-// The logarithm and the root for the tests and the benchmark outside Rattle: numbers that a C program can pass, any of them.
+// The logarithm and the root for tests outside Rattle: functions on any numbers, which a C program can call.
 ghost use mathlib.Core.Path.{_≡_};
 ghost use Rattle.probe.specs.Probe.{probedLn, probedRoot};
 
@@ -29,13 +29,13 @@ pub extern "C" fn probe_ln(a: u64, b: u64) -> Probed
     }
 }
 
-// The root of x is from r/131072 to (r + 1)/131072. Where x is too large, r is 0.
+// The root of x is from r/131072 to (r + 1)/131072. Where x is too large, r is 2^64 − 1.
 #[no_mangle]
 pub extern "C" fn probe_root(x: u64) -> u64
     ensures { λ r. ⌜ r ≡ probedRoot x ⌝ }
 {
     if 536_870_912 <= x {
-        return 0;
+        return 18_446_744_073_709_551_615;
     }
     logarithm::root(x)
 }

@@ -6,8 +6,9 @@ use lib.IntN.{pos}
 use lib.ListN.{length, getD}
 use Rattle.exact.specs.Fraction.{Fraction, _over_, zeroQ, _≈q_}
 use Rattle.exact.specs.Pair.{Pair}
-use Rattle.exact.specs.Formula.{Formula, ln, root, eval}
+use Rattle.exact.specs.Formula.{Formula, ln, root, eval, Defined}
 
+-- a row
 pub data Check : Type 0 where
   -- pairs: the pair of a formula at fineness n has these two ends
   pairAt : ℕ → Formula → Fraction → Fraction → Check
@@ -18,13 +19,15 @@ pub data Check : Type 0 where
   -- records: the fields that are read, in their order, have these values
   fields : List ℕ → List ℕ → Check
 
+-- P has the ends x and y
 pub record HasEnds (P : Pair) (x y : Fraction) : Type 0 where
   pub low : P .low ≈q x
   pub high : P .high ≈q y
 
+-- what a row says: of a formula's pair also that it is worked out with numbers that are defined
 unfoldable pub Holds : Check → Type 0
-Holds (pairAt n e x y) = HasEnds (eval n e) x y
-Holds (lnAtEvery a b x y) = (n : ℕ) → 1 ≤ n → HasEnds (eval n (ln a b)) x y
+Holds (pairAt n e x y) = (1 ≤ n) × Defined n e × HasEnds (eval n e) x y
+Holds (lnAtEvery a b x y) = (n : ℕ) → 1 ≤ n → Defined n (ln a b) × HasEnds (eval n (ln a b)) x y
 Holds (fraction x y) = x ≈q y
 Holds (fields xs ys) = xs ≡ ys
 

@@ -11,7 +11,8 @@ use Rattle.logarithm.proofs.mantissa_ln.Tie as tie
 coarse-known : (c : tie.After-coarse) → Coarse (c .before .args .y) (c .coarse .result)
 coarse-known c = rw (c .coarse .ensures) (coarse-at _ (c .before .pre .least) (c .before .pre .most))
 
-fine-known : (c : tie.After-fine) → Fine (c .before .before .before .args .y * c .before .before .coarse .result .by) (c .fine .result)
+fine-known : (c : tie.After-fine) →
+    Fine (c .before .before .before .args .y * c .before .before .coarse .result .by) (c .fine .result)
 fine-known c = let k = coarse-known (c .before .before) in rw (c .fine .ensures) (fine-at _ (k .least) (k .most))
 
 sub-coarse : tie.Need-sub-coarse
@@ -44,7 +45,8 @@ add-result-2 : tie.Need-add-result-2
 add-result-2 c =
     let n = c .before .before in
     let f = n .before .before in
-    rw (n .near-one .ensures) (omega (arith, coarse-known (f .before .before) .small, fine-known f .small, near-small (fine-known f .near)))
+    let w = fine-known f in
+    rw (n .near-one .ensures) (omega (arith, coarse-known (f .before .before) .small, w .small, near-small (w .near)))
 
 returns : tie.Need-returns
 unfolding mantissaLnOf
