@@ -2,6 +2,7 @@
 # make test   all that the gate runs; its last line is 'N passed, 0 failed'
 
 export PATH := $(PATH):/opt/rattle/bin
+export PYTHONDONTWRITEBYTECODE := 1
 CC := gcc
 PROBE := target/tests/probe
 
@@ -24,8 +25,8 @@ outside: probe
 
 # A program over the proved library, for the tests.
 probe: need
-	rt staticlib probe
 	mkdir -p target/tests
+	rt staticlib probe > target/tests/probe.log 2>&1 || { cat target/tests/probe.log; exit 1; }
 	$(CC) -O2 -Wall -Wextra -Werror -std=c99 -o $(PROBE) tests/probe.c target/staticlib/libprobe.a
 
 need:

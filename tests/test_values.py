@@ -21,6 +21,10 @@ LN = re.compile(r'pairAt ([\d_]+) \(ln ([\d_]+) ([\d_]+)\) ' + ENDS)
 ROOT = re.compile(r'pairAt ([\d_]+) \(root ([\d_]+)\) ' + ENDS)
 EVERY = re.compile(r'lnAtEvery ([\d_]+) ([\d_]+) ' + ENDS)
 
+# Document 01, 'Values to try', marked P: the subjects that have to be there.
+WANTED = ('pairAt 1 (ln 3 1)', 'pairAt 2 (ln 2 1)', 'lnAtEvery 7 7',
+          'pairAt 1 (root 18_225)')
+
 
 def rows(path):
     """Return the rows between 'values =' and the empty list, as text."""
@@ -66,10 +70,15 @@ def main():
     """Check every row."""
     table = rows(TABLE)
     wrong = [row for row in table if not row_holds(row)]
+    missing = [subject for subject in WANTED
+               if not any(row.startswith(subject + ' ') for row in table)]
     for row in wrong:
         print('wrong:', row)
-    print(f'proved values: {len(table)} rows, {len(wrong)} wrong')
-    sys.exit(1 if wrong or not table else 0)
+    for subject in missing:
+        print('missing:', subject)
+    print(f'proved values: {len(table)} rows, {len(wrong)} wrong, '
+          f'{len(missing)} missing')
+    sys.exit(1 if wrong or missing else 0)
 
 
 main()

@@ -14,9 +14,8 @@ use Rattle.exact.proofs.FractionLaws.{lt-of, add-Is, mul-Is, neg-Is, over-Is}
 use Rattle.exact.proofs.LogarithmLaws.{Bounds, bounds-wider, bounds-same, encloses-ln}
 use Rattle.exact.proofs.RootLaws.{wholeRoot-is, root-below, encloses-root}
 use Rattle.logarithm.specs.declared.Ends.{Ends}
-use Rattle.logarithm.specs.Promise.{LnDomain, rootFineness}
 use Rattle.logarithm.specs.Evaluation.{scaledOf, slack, scaledLnOf, lnOf, rootOf}
-use Rattle.logarithm.specs.Promise.{lnWidth, LnEnds, width, RootEnds}
+use Rattle.logarithm.specs.Promise.{LnDomain, lnWidth, LnEnds, rootFineness, width, RootEnds}
 use Rattle.logarithm.proofs.Walk.{U}
 use Rattle.logarithm.proofs.Octave.{scales}
 use Rattle.logarithm.proofs.Sum.{mantissa-ln, total}

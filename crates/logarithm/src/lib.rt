@@ -15,9 +15,9 @@ pub struct Ends {
 }
 
 // mantissa 2^octave / 2^35, the mantissa from 2^35 to below 2^36.
-pub struct Scaled {
-    pub octave: u64,
-    pub mantissa: u64,
+struct Scaled {
+    octave: u64,
+    mantissa: u64,
 }
 
 // a/b, rounded down.
