@@ -37,13 +37,16 @@ rounded sum k few small b = record {
   small = omega arith;
 }
 
+zero : {b : ℕ} → 1 ≤ b → Bounds 1 0 0 b b
+zero h = bounds-same h (omega arith)
+
 lnOf-rounded : {a b : ℕ} → LnDomain a b → Rounded a b (lnOf a b)
 unfolding lnOf scaledLnOf
 lnOf-rounded {a} {b} d = go (eqb a b) (eqb→eq a b)
   where
     go : (c : Bool) → (T c → a ≡ b) → Rounded a b (cond c (record { low = 0; high = 0 }) (scaledLnOf (scaledOf a b)))
     go true e = rw (e tt) (record {
-      bounds = bounds-same (d .least) (omega arith);
+      bounds = bounds-wider 1_000_000_000 _ _ (omega arith) (omega arith) (omega arith) (omega arith) (zero (d .least));
       order = omega arith;
       narrow = omega arith;
       small = omega arith;
