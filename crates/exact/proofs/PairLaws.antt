@@ -111,15 +111,16 @@ pub above-reached : {P Q : Pair} → Proper P → Proper Q → T (reachesAbove P
 unfolding reachesAbove
 above-reached {P} {Q} p q t = (P .high, Q .low, high-in p, low-in q, record { lt = t })
 
-cond-upTo : (c e : Bool) (A B : Pair) {z : Fraction} → T c → (T c → z ∈ A) → z ∈ cond c (cond e (hull A B) A) B
-cond-upTo true true A B t h = in-hull-left B (h t)
-cond-upTo true false A B t h = h t
-cond-upTo false e A B t h = absurd t
+-- a point of A is one of the branch where A is reached, and so for B
+to-first : (c e : Bool) (B H : Pair) {A : Pair} {z : Fraction} → T c → z ∈ A → (z ∈ A → z ∈ H) → z ∈ cond c (cond e H A) B
+to-first true true B H t h k = k h
+to-first true false B H t h k = h
+to-first false e B H t h k = absurd t
 
-cond-above : (c e : Bool) (A B : Pair) {z : Fraction} → T e → (T e → z ∈ B) → z ∈ cond c (cond e (hull A B) A) B
-cond-above true true A B t h = in-hull-right A (h t)
-cond-above true false A B t h = absurd t
-cond-above false e A B t h = h t
+to-second : (c e : Bool) (A H : Pair) {B : Pair} {z : Fraction} → T e → z ∈ B → (z ∈ B → z ∈ H) → z ∈ cond c (cond e H A) B
+to-second true true A H t h k = k h
+to-second true false A H t h k = absurd t
+to-second false e A H t h k = h
 
 -- z where x is up to y, else w: only a branch that is reached need hold its point
 pub in-branch : {x y z w : Fraction} {P Q A B : Pair} → x ∈ P → y ∈ Q →
@@ -127,9 +128,13 @@ pub in-branch : {x y z w : Fraction} {P Q A B : Pair} → x ∈ P → y ∈ Q �
 unfolding branch
 in-branch {x} {y} {z} {w} {P} {Q} {A} {B} h k i j = go (leQ x y) refl
   where
-    go : (c : Bool) → leQ x y ≡ c → cond c z w ∈ cond (reachesUpTo P Q) (cond (reachesAbove P Q) (hull A B) A) B
-    go true e = cond-upTo (reachesUpTo P Q) (reachesAbove P Q) A B (reached-upTo h k (record { le = rw e tt })) i
-    go false e = cond-above (reachesUpTo P Q) (reachesAbove P Q) A B (reached-above h k (record { lt = rw e tt })) j
+    go : (c : Bool) → leQ x y ≡ c → cond c z w ∈ branch P Q A B
+    go true e =
+        let t = reached-upTo h k (record { le = rw e tt }) in
+        to-first (reachesUpTo P Q) (reachesAbove P Q) B _ t (i t) (in-hull-left _)
+    go false e =
+        let t = reached-above h k (record { lt = rw e tt }) in
+        to-second (reachesUpTo P Q) (reachesAbove P Q) A _ t (j t) (in-hull-right _)
 
 -- ---- pairs that meet
 

@@ -14,7 +14,7 @@ use Rattle.exact.proofs.FractionLaws.{lt-of, add-Is, mul-Is, neg-Is, over-Is}
 use Rattle.exact.proofs.LogarithmLaws.{Bounds, bounds-wider, bounds-same, encloses-ln}
 use Rattle.exact.proofs.RootLaws.{wholeRoot-is, root-below, encloses-root}
 use Rattle.logarithm.specs.declared.Ends.{Ends}
-use Rattle.logarithm.specs.Evaluation.{scaledOf, slack, scaledLnOf, lnOf, rootOf}
+use Rattle.logarithm.specs.Evaluation.{scaledOf, slack, scaledLnOf, bothZero, lnOf, rootOf}
 use Rattle.logarithm.specs.Promise.{LnDomain, lnWidth, LnEnds, rootFineness, width, RootEnds}
 use Rattle.logarithm.proofs.Walk.{U}
 use Rattle.logarithm.proofs.Octave.{scales}
@@ -44,7 +44,7 @@ lnOf-rounded : {a b : ℕ} → LnDomain a b → Rounded a b (lnOf a b)
 unfolding lnOf scaledLnOf
 lnOf-rounded {a} {b} d = go (eqb a b) (eqb→eq a b)
   where
-    go : (c : Bool) → (T c → a ≡ b) → Rounded a b (cond c (record { low = 0; high = 0 }) (scaledLnOf (scaledOf a b)))
+    go : (c : Bool) → (T c → a ≡ b) → Rounded a b (cond c bothZero (scaledLnOf (scaledOf a b)))
     go true e = rw (e tt) (record {
       bounds = bounds-wider 1_000_000_000 _ _ (omega arith) (omega arith) (omega arith) (omega arith) (zero (d .least));
       order = omega arith;
@@ -57,9 +57,9 @@ lnOf-rounded {a} {b} d = go (eqb a b) (eqb→eq a b)
 
 -- ---- the promises
 
-lnOf-same : {a b : ℕ} → a ≡ b → lnOf a b .high ≡ 0
+lnOf-same : {a b : ℕ} → a ≡ b → (lnOf a b .low ≡ 0) × (lnOf a b .high ≡ 0)
 unfolding lnOf
-lnOf-same {a} {b} e = simp (eq-eqb a b e)
+lnOf-same {a} {b} e = (simp (eq-eqb a b e), simp (eq-eqb a b e))
 
 pub lnOf-promise : {a b : ℕ} → LnDomain a b → LnEnds a b (lnOf a b)
 lnOf-promise d =

@@ -57,9 +57,13 @@ scaledLnOf s =
     let sum : ℕ = s .octave * ln2 + mantissaLnOf (s .mantissa) in
     record { low = sum / 4096; high = (sum + 23 * s .octave + slack) / 4096 }
 
+-- the ends for equal a and b
+abbrev pub bothZero : Ends
+bothZero = record { low = 0; high = 0 }
+
 -- the ends of ln(a/b)
 unfoldable pub lnOf : ℕ → ℕ → Ends
-lnOf a b = cond (eqb a b) (record { low = 0; high = 0 }) (scaledLnOf (scaledOf a b))
+lnOf a b = cond (eqb a b) bothZero (scaledLnOf (scaledOf a b))
 
 -- ---- √X
 

@@ -25,7 +25,7 @@ lnWidth = 2
 pub record LnEnds (a b : ℕ) (e : Ends) : Type 0 where
   pub encloses : Encloses (ends (pos (e .low)) (pos (e .high))) (ln a b)
   pub narrow : e .high ≤ e .low + lnWidth
-  pub same : a ≡ b → e .high ≡ 0
+  pub same : a ≡ b → (e .low ≡ 0) × (e .high ≡ 0)
 
 -- ---- √X
 
