@@ -1,4 +1,4 @@
-# make run    proves the crates and runs what there is of the main job
+# make run    proves the crates that it needs and runs what there is of the main job
 # make test   all that the gate runs; its last line is 'N passed, 0 failed'
 
 export PATH := $(PATH):/opt/rattle/bin

@@ -61,6 +61,7 @@ def definition(name, comment, rows):
 
 def proof(name, rows):
     lines = [
+        "-- Written by tools/logarithm_tables.py.",
         f"-- `table::{name}` meets its contract: an answer for each place of the table, and one for every place past them.",
         "use mathlib.Core.Path.{refl}",
         "use lib.ListN.{take}",

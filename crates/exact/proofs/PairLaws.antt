@@ -40,24 +40,24 @@ in-sub h k = record { from = sub-mono (h .from) (k .to); to = sub-mono (h .to) (
 
 -- the four that are spanned
 module _ (a b c d : Fraction) where
-  pub in-first : a ∈ span4 a b c d
+  in-first : a ∈ span4 a b c d
   unfolding span4
   in-first = record { from = ≤q-trans (min-left _ _) (min-left a b); to = ≤q-trans (max-left a b) (max-left _ _) }
 
-  pub in-second : b ∈ span4 a b c d
+  in-second : b ∈ span4 a b c d
   unfolding span4
   in-second = record { from = ≤q-trans (min-left _ _) (min-right a b); to = ≤q-trans (max-right a b) (max-left _ _) }
 
-  pub in-third : c ∈ span4 a b c d
+  in-third : c ∈ span4 a b c d
   unfolding span4
   in-third = record { from = ≤q-trans (min-right _ _) (min-left c d); to = ≤q-trans (max-left c d) (max-right _ _) }
 
-  pub in-fourth : d ∈ span4 a b c d
+  in-fourth : d ∈ span4 a b c d
   unfolding span4
   in-fourth = record { from = ≤q-trans (min-right _ _) (min-right c d); to = ≤q-trans (max-right c d) (max-right _ _) }
 
 -- what lies between two points of a pair lies in it
-pub between-in : {a b z : Fraction} {P : Pair} → Between a b z → a ∈ P → b ∈ P → z ∈ P
+between-in : {a b z : Fraction} {P : Pair} → Between a b z → a ∈ P → b ∈ P → z ∈ P
 between-in g h k = record { from = between-low g (h .from) (k .from); to = between-high g (h .to) (k .to) }
 
 -- x from a to b, and y from c to d or from d to c: x y is among the four products

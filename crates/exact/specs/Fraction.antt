@@ -24,25 +24,30 @@ z over suc d = record { num = z; den = suc d; positive = suc-le-suc zero-le }
 unfoldable pub zeroQ : Fraction
 zeroQ = pos 0 over 1
 
--- ---- "equal or in order as their cross products are"
+-- ---- order and equality
 
+-- x up to y: "in order as their cross products are"
 unfoldable pub leQ : Fraction → Fraction → Bool
 leQ x y = leZ (x .num *ℤ pos (y .den)) (y .num *ℤ pos (x .den))
 
 infix 50 _≤q_ _<q_ _≈q_
+-- the same as a fact
 pub record _≤q_ (x y : Fraction) : Type 0 where
   pub le : T (leQ x y)
 
+-- x below y: y is not up to x
 pub record _<q_ (x y : Fraction) : Type 0 where
   pub lt : T (not (leQ y x))
 
+-- "two are equal .. as their cross products are"
 pub record _≈q_ (x y : Fraction) : Type 0 where
   pub equal : x .num *ℤ pos (y .den) ≡ y .num *ℤ pos (x .den)
 
--- ---- sum, difference, product, quotient, as fractions have them
+-- ---- the four operations, which document 01 takes as known
 
 infixl 65 _+q_ _-q_
 infixl 70 _*q_ _/q_
+-- x + y, over the product of the denominators
 unfoldable pub _+q_ : Fraction → Fraction → Fraction
 x +q y = record {
   num = x .num *ℤ pos (y .den) +ℤ y .num *ℤ pos (x .den);
@@ -50,12 +55,15 @@ x +q y = record {
   positive = mul-pos (x .positive) (y .positive);
 }
 
+-- −x
 unfoldable pub negQ : Fraction → Fraction
 negQ x = record { num = negℤ (x .num); den = x .den; positive = x .positive }
 
+-- x − y
 unfoldable pub _-q_ : Fraction → Fraction → Fraction
 x -q y = x +q negQ y
 
+-- x y
 unfoldable pub _*q_ : Fraction → Fraction → Fraction
 x *q y = record { num = x .num *ℤ y .num; den = x .den * y .den; positive = mul-pos (x .positive) (y .positive) }
 
@@ -72,10 +80,12 @@ recipQ x = flip (x .num) (x .den)
 unfoldable pub _/q_ : Fraction → Fraction → Fraction
 x /q y = x *q recipQ y
 
--- ---- the lesser and the greater of two
+-- ---- for "from the least to the greatest"
 
+-- the lesser of two
 unfoldable pub minQ : Fraction → Fraction → Fraction
 minQ x y = cond (leQ x y) x y
 
+-- the greater of two
 unfoldable pub maxQ : Fraction → Fraction → Fraction
 maxQ x y = cond (leQ x y) y x

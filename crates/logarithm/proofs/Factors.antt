@@ -9,7 +9,7 @@ use Rattle.exact.proofs.Tests.{and-left, and-right, every, every-at}
 use Rattle.logarithm.specs.declared.table.Factor.{Factor}
 use Rattle.logarithm.specs.Tables.{ln2, coarse, coarseAt, fine, fineAt}
 use Rattle.logarithm.specs.Evaluation.{NearOne}
-use Rattle.logarithm.proofs.Walk.{Entry, table-entry}
+use Rattle.logarithm.proofs.Walk.{Entry, walks, table-entry}
 use Rattle.logarithm.proofs.TableTests.{inPlace, coarse-walks, fine-walks, coarse-places, fine-places}
 
 -- ---- a factor at its place
@@ -50,56 +50,56 @@ spread D cells top most i y w p g h = go (w .by) (p .some) (p .low) (p .high)
       omega (arith, mul-le-mul-right b h, mul-le-mul-right D m),
     )
 
+-- w brings y to what is from top cells D to below end D, and its logarithm is right to δ
+pub record Brings (cells top end δ D y : ℕ) (w : Factor) : Type 0 where
+  pub entry : Entry top δ w
+  pub some : 1 ≤ w .by
+  pub up : w .by ≤ top
+  pub small : w .logarithm ≤ ln2
+  pub least : top * cells * D ≤ y * w .by
+  pub most : y * w .by < end * D
+
+-- by the two tests of a table, each of its entries does
+module _ (c cells top most δ D : ℕ) (ws : List Factor) (hc : 1 ≤ c) (ht : 1 ≤ c * top)
+    (walk : T (walks c top δ ws (c * top) 0 0)) (places : T (every (inPlace cells top most) 0 ws)) where
+  brings : (d : Factor) (i y : ℕ) → i < length ws → (cells + i) * D ≤ y → y < (cells + i + 1) * D →
+      Brings cells top most δ D y (getD ws i d)
+  brings d i y h g k =
+      let p = in-place cells top most ws places d i h in
+      let s = spread D cells top most i y (getD ws i d) p g k in
+      record {
+        entry = table-entry c top δ hc ws ht walk d i h;
+        some = p .some;
+        up = p .up;
+        small = p .small;
+        least = s .0;
+        most = s .1;
+      }
+
 -- ---- the two tables
 
-pub record Coarse (y : ℕ) (c : Factor) : Type 0 where
-  pub entry : Entry 4096 23 c
-  pub some : 1 ≤ c .by
-  pub up : c .by ≤ 4096
-  pub small : c .logarithm ≤ ln2
-  pub least : 2 ^ 47 ≤ y * c .by
-  pub most : y * c .by < 4160 * 2 ^ 35
+abbrev pub Coarse : ℕ → Factor → Type 0
+Coarse y c = Brings 64 4096 266_240 23 (2 ^ 29) y c
 
+pub coarse-at : (y : ℕ) → 2 ^ 35 ≤ y → y < 2 ^ 36 → Coarse y (coarseAt (y / 2 ^ 29 - 64))
+unfolding coarseAt
+coarse-at y p q =
+    brings 64 64 4096 266_240 23 (2 ^ 29) coarse (omega arith) (omega arith) coarse-walks coarse-places _ (y / 2 ^ 29 - 64) y
+    (omega arith) (omega arith) (omega arith)
+
+-- its logarithms alone, the last of which is ln 2
 pub coarse-entry : (i : ℕ) → i ≤ 64 → Entry 4096 23 (coarseAt i)
 unfolding coarseAt
 coarse-entry i h = table-entry 64 4096 23 (omega arith) coarse (omega arith) coarse-walks _ i (omega arith)
 
-pub coarse-at : (y : ℕ) → 2 ^ 35 ≤ y → y < 2 ^ 36 → Coarse y (coarseAt (y / 2 ^ 29 - 64))
-unfolding coarseAt
-coarse-at y p q = go (y / 2 ^ 29 - 64) (omega arith) (omega arith) (omega arith)
-  where
-    go : (i : ℕ) → i ≤ 64 → (64 + i) * 2 ^ 29 ≤ y → y < (64 + i + 1) * 2 ^ 29 → Coarse y (coarseAt i)
-    go i h g k =
-        let w = in-place 64 4096 266_240 coarse coarse-places _ i (omega arith) in
-        let s = spread (2 ^ 29) 64 4096 266_240 i y _ w g k in
-        record {
-          entry = coarse-entry i h;
-          some = w .some;
-          up = w .up;
-          small = w .small;
-          least = omega arith;
-          most = omega arith;
-        }
-
-pub record Fine (w : ℕ) (f : Factor) : Type 0 where
-  pub entry : Entry 16_384 2 f
-  pub some : 1 ≤ f .by
-  pub up : f .by ≤ 16_384
-  pub small : f .logarithm ≤ ln2
-  pub near : NearOne (w * f .by)
+abbrev pub Fine : ℕ → Factor → Type 0
+Fine w f = Brings 4096 16_384 67_129_344 2 (2 ^ 35) w f
 
 pub fine-at : (w : ℕ) → 2 ^ 47 ≤ w → w < 4160 * 2 ^ 35 → Fine w (fineAt (w / 2 ^ 35 - 4096))
 unfolding fineAt
-fine-at w p q = go (w / 2 ^ 35 - 4096) (omega arith) (omega arith) (omega arith)
-  where
-    go : (i : ℕ) → i ≤ 63 → (4096 + i) * 2 ^ 35 ≤ w → w < (4096 + i + 1) * 2 ^ 35 → Fine w (fineAt i)
-    go i h g k =
-        let z = in-place 4096 16_384 67_129_344 fine fine-places _ i (omega arith) in
-        let s = spread (2 ^ 35) 4096 16_384 67_129_344 i w _ z g k in
-        record {
-          entry = table-entry 16 16_384 2 (omega arith) fine (omega arith) fine-walks _ i (omega arith);
-          some = z .some;
-          up = z .up;
-          small = z .small;
-          near = record { least = omega arith; most = omega arith };
-        }
+fine-at w p q =
+    brings 16 4096 16_384 67_129_344 2 (2 ^ 35) fine (omega arith) (omega arith) fine-walks fine-places _ (w / 2 ^ 35 - 4096) w
+    (omega arith) (omega arith) (omega arith)
+
+pub near : {w : ℕ} {f : Factor} → Fine w f → NearOne (w * f .by)
+near l = record { least = l .least; most = omega (arith, l .most) }

@@ -12,7 +12,7 @@ use Rattle.logarithm.specs.Promise.{LnDomain}
 use Rattle.logarithm.specs.Evaluation.{Mantissa, nearOneOf, mantissaLnOf, scaledOf}
 use Rattle.logarithm.proofs.Areas.{bounds-rounded}
 use Rattle.logarithm.proofs.Walk.{U}
-use Rattle.logarithm.proofs.Factors.{Coarse, Fine, coarse-entry, coarse-at, fine-at}
+use Rattle.logarithm.proofs.Factors.{Coarse, Fine, coarse-at, coarse-entry, fine-at, near}
 use Rattle.logarithm.proofs.Remainder.{near-one, near-small}
 use Rattle.logarithm.proofs.Octave.{Scales, scales}
 
@@ -31,7 +31,7 @@ module _ {y : ℕ} {c f : Factor} (m : Mantissa y) (k : Coarse y c) (l : Fine (y
       bounds-over (c .by * f .by) (one-le-mul (k .some) (l .some)) (omega arith) (m .least)
       (bounds-wider U _ _ (omega arith) (omega arith) (omega arith) (omega arith)
       (bounds-plus U {x = nearOneOf (y * c .by * f .by)} {y = nearOneOf (y * c .by * f .by) + 64} (omega arith)
-      (le-trans last-order second-order) (rw first (l .near .least)) (rw first (near-one (l .near)))
+      (le-trans last-order second-order) (rw first (l .least)) (rw first (near-one (near l)))
       (bounds-plus U (omega arith) last-order second-order (bounds-times (2 ^ 47) (omega arith) (l .entry))
       (rw (third, last) at (bounds-times (2 ^ 35 * f .by) (one-le-mul {a = 2 ^ 35} (omega arith) (l .some)) (k .entry))))))
     where
@@ -54,7 +54,7 @@ unfolding mantissaLnOf
 mantissa-ln {y} m =
     let k = coarse-at y (m .least) (m .most) in
     let l = fine-at _ (k .least) (k .most) in
-    record { bounds = brought m k l; small = omega (arith, k .small, l .small, near-small (l .near)) }
+    record { bounds = brought m k l; small = omega (arith, k .small, l .small, near-small (near l)) }
 
 -- ---- k octaves
 

@@ -31,6 +31,7 @@ Holds (lnAtEvery a b x y) = (n : ℕ) → 1 ≤ n → Defined n (ln a b) × HasE
 Holds (fraction x y) = x ≈q y
 Holds (fields xs ys) = xs ≡ ys
 
+-- the rows, in document 01's order
 abbrev pub values : List Check
 values =
     -- "ln 3 at n = 1 has 5/6 and 3/2; ln 2 at n = 2 has 7/12 and 5/6; ln(7/7) has 0 and 0"

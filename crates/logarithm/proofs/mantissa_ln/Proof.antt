@@ -3,7 +3,7 @@ use Prim.Native.Nat.{_*_}
 use native.Mathlib.Omega.{arith}
 use borrow.Author.Needs.{needs}
 use Rattle.logarithm.specs.Evaluation.{mantissaLnOf}
-use Rattle.logarithm.proofs.Factors.{Coarse, Fine, coarse-at, fine-at}
+use Rattle.logarithm.proofs.Factors.{Coarse, Fine, coarse-at, fine-at, near}
 use Rattle.logarithm.proofs.Remainder.{near-small}
 use Rattle.logarithm.proofs.mantissa_ln.Statement.{statement}
 use Rattle.logarithm.proofs.mantissa_ln.Tie as tie
@@ -31,10 +31,10 @@ fine-requires : tie.Need-fine-requires
 fine-requires c κs = search needs
 
 mul-near-one : tie.Need-mul-near-one
-mul-near-one c = omega (arith, fine-known (c .before) .near .most)
+mul-near-one c = omega (arith, fine-known (c .before) .most)
 
 near-one-requires : tie.Need-near-one-requires
-near-one-requires c κs = fine-known (c .before) .near
+near-one-requires c κs = near (fine-known (c .before))
 
 add-result : tie.Need-add-result
 add-result c =
@@ -46,7 +46,7 @@ add-result-2 c =
     let n = c .before .before in
     let f = n .before .before in
     let w = fine-known f in
-    rw (n .near-one .ensures) (omega (arith, coarse-known (f .before .before) .small, w .small, near-small (w .near)))
+    rw (n .near-one .ensures) (omega (arith, coarse-known (f .before .before) .small, w .small, near-small (near w)))
 
 returns : tie.Need-returns
 unfolding mantissaLnOf

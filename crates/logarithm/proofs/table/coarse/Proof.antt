@@ -1,3 +1,4 @@
+-- Written by tools/logarithm_tables.py.
 -- `table::coarse` meets its contract: an answer for each place of the table, and one for every place past them.
 use mathlib.Core.Path.{refl}
 use lib.ListN.{take}
