@@ -1,0 +1,3 @@
+pub mod MapLaws
+pub mod FieldLaws
+pub mod ReadingLaws

@@ -1,0 +1,54 @@
+-- What a reading that is not refused says of the bytes.
+use mathlib.Core.Path.{_≡_, refl}
+use mathlib.Core.Bool.{false}
+use mathlib.Core.List.{List, []}
+use Prim.Native.Nat.{ℕ, zero, suc, _≤_, _<_}
+use native.Mathlib.Omega.{arith}
+use borrow.Author.Tests.{eqb-false, ltb-false}
+use lib.Dec.{eqb, ltb}
+use lib.ListN.{length, drop}
+use Rattle.scenario.specs.declared.Scenario.{Scenario}
+use Rattle.scenario.specs.Lists.{_when_, _otherwise_}
+use Rattle.scenario.specs.Refusal.{refusalOf}
+use Rattle.scenario.proofs.ListLaws.{none-of, not-when}
+use Rattle.record.specs.declared.Reading.{Reading}
+use Rattle.record.specs.declared.Reading.the-variants.{Read, Refused}
+use Rattle.record.specs.Layout.{layout, plainDefault}
+use Rattle.record.specs.Outcome.{mapIn, scenarioIn, lengthBy, mapRefusal, readRefusal, readingOf, readOf, restOf}
+
+-- s passes every check of reading
+pub record Accepted (s : List ℕ) : Type 0 where
+  pub some : 0 < length s
+  pub passes : mapRefusal (mapIn s) ≡ 0
+  pub room : lengthBy (mapIn s) ≤ length s
+  pub apart : plainDefault layout (mapIn s) (scenarioIn s) ≡ false
+  pub taken : refusalOf (scenarioIn s) ≡ 0
+
+pub accepted : (s : List ℕ) → readRefusal s ≡ 0 → Accepted s
+unfolding readRefusal
+accepted s e =
+    let m = mapIn s in
+    let a = none-of (7 when eqb (length s) 0) _ e in
+    let b = none-of (mapRefusal m) _ (a .1) in
+    let c = none-of (7 when ltb (length s) (lengthBy m)) _ (b .1) in
+    let d = none-of (11 when plainDefault layout m (scenarioIn s)) _ (c .1) in
+    let z = eqb-false (length s) 0 (not-when 6 _ (a .0)) in
+    record {
+      some = omega (arith, z);
+      passes = b .0;
+      room = ltb-false (length s) (lengthBy m) (not-when 6 _ (c .0));
+      apart = not-when 10 _ (d .0);
+      taken = d .1;
+    }
+
+pub is-refused : (k : ℕ) (x : Scenario) (n : ℕ) → (k ≡ 0 → ⊥) → Refused k ≡ readingOf k x n
+is-refused zero x n h = absurd (h refl)
+is-refused (suc k) x n h = refl
+
+pub no-rest : (s : List ℕ) → (readRefusal s ≡ 0 → ⊥) → [] ≡ restOf s
+unfolding restOf readOf
+no-rest s h = rw (← is-refused (readRefusal s) (scenarioIn s) (lengthBy (mapIn s)) h) refl
+
+pub rest-is : (s : List ℕ) → readRefusal s ≡ 0 → restOf s ≡ drop (lengthBy (mapIn s)) s
+unfolding restOf readOf
+rest-is s e = rw e refl

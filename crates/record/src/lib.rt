@@ -1,0 +1,192 @@
+// Reads and writes the record of a scenario.
+ghost use mathlib.Core.Path.{_≡_};
+ghost use mathlib.Core.Bool.{cond, _&&_, _||_};
+ghost use mathlib.Core.List.{[], _∷_};
+ghost use Prim.Native.Nat.{_+_, _≤_, _<_};
+ghost use lib.Dec.{eqb};
+ghost use lib.ListN.{length, take, drop};
+ghost use lib.Seq.{sets};
+ghost use Rattle.record.specs.Layout.{layout, numberOf, plainDefault, mapOf};
+ghost use Rattle.record.specs.Layout.{bytesOf, partOf, partsOf, recordOf};
+ghost use Rattle.record.specs.Outcome.{mapIn, scenarioIn, lengthBy, mapRefusal, readRefusal, readOf, restOf};
+ghost use Rattle.record.specs.Outcome.{readingNumber, writeOf, writeRefusal, writtenNumber, lentAfter};
+use scenario::Scenario;
+
+// What reading answers: the scenario and the length of its record, or the number with which it is turned away.
+pub enum Reading {
+    Read(Scenario, usize),
+    Refused(u8),
+}
+
+// What writing answers: the length of the record, or the number with which it is turned away.
+pub enum Written {
+    Length(usize),
+    Refused(u8),
+}
+
+// n, and k more where b holds.
+fn more_if(n: usize, b: bool, k: usize) -> usize
+    requires { ⌜ n + k < 256 ⌝ }
+    ensures { λ r. ⌜ (r ≡ n + cond b k 0) × (r ≤ n + k) ⌝ }
+{
+    if b {
+        return n + k;
+    }
+    n
+}
+
+// The checks of the map byte.
+fn map_refusal(m: u8) -> u8
+    ensures { λ r. ⌜ r ≡ mapRefusal m ⌝ }
+{
+    if 64 <= m {
+        return 8;
+    }
+    if m % 8 != 7 {
+        return 9;
+    }
+    if m == 0 {
+        return 10;
+    }
+    0
+}
+
+// The length of the record whose map byte is m.
+fn record_length(m: u8) -> usize
+    requires { ⌜ mapRefusal m ≡ 0 ⌝ }
+    ensures { λ r. ⌜ r ≡ lengthBy m ⌝ }
+{
+    let mechanism_at = more_if(6, m / 8 % 2 == 1, 2);
+    let period_at = more_if(mechanism_at, m / 16 % 2 == 1, 1);
+    more_if(period_at, m / 32 % 2 == 1, 2)
+}
+
+fn byte(s: &[u8], at: usize) -> u8
+    requires { ⌜ at < length (now s) ⌝ }
+    ensures { λ r. ⌜ r ≡ numberOf (take 1 (drop at (now (s .entry)))) ⌝ }
+{
+    s[at]
+}
+
+fn word(s: &[u8], at: usize) -> u16
+    requires { ⌜ at + 1 < length (now s) ⌝ }
+    ensures { λ r. ⌜ r ≡ numberOf (take 2 (drop at (now (s .entry)))) ⌝ }
+{
+    (s[at] as u16) + 256 * (s[at + 1] as u16)
+}
+
+fn byte_or(s: &[u8], stands: bool, at: usize, absent: u8) -> u8
+    requires { ⌜ at + cond stands 1 0 ≤ length (now s) ⌝ }
+    ensures { λ r. ⌜ r ≡ cond stands (numberOf (take 1 (drop at (now (s .entry))))) absent ⌝ }
+{
+    if stands {
+        return byte(s, at);
+    }
+    absent
+}
+
+fn word_or(s: &[u8], stands: bool, at: usize, absent: u16) -> u16
+    requires { ⌜ at + cond stands 2 0 ≤ length (now s) ⌝ }
+    ensures { λ r. ⌜ r ≡ cond stands (numberOf (take 2 (drop at (now (s .entry))))) absent ⌝ }
+{
+    if stands {
+        return word(s, at);
+    }
+    absent
+}
+
+// The scenario of the record at the front of s.
+fn fields(s: &[u8]) -> Scenario
+    requires { ⌜ (mapRefusal (mapIn (now s)) ≡ 0) × (lengthBy (mapIn (now s)) ≤ length (now s)) ⌝ }
+    ensures { λ r. ⌜ r ≡ scenarioIn (now (s .entry)) ⌝ }
+{
+    let m = s[0];
+    let velocity = m / 8 % 2 == 1;
+    let mechanism = m / 16 % 2 == 1;
+    let period = m / 32 % 2 == 1;
+    let mechanism_at = more_if(6, velocity, 2);
+    let period_at = more_if(mechanism_at, mechanism, 1);
+    Scenario {
+        model: byte(s, 1),
+        magnitude: word(s, 2),
+        distance: word(s, 4),
+        velocity: word_or(s, velocity, 6, 7_600),
+        mechanism: byte_or(s, mechanism, mechanism_at, 9),
+        period: word_or(s, period, period_at, 0),
+    }
+}
+
+fn both(a: bool, b: bool) -> bool
+    ensures { λ r. ⌜ r ≡ (a && b) ⌝ }
+{
+    if a {
+        return b;
+    }
+    false
+}
+
+fn any(a: bool, b: bool, c: bool) -> bool
+    ensures { λ r. ⌜ r ≡ (a || (b || c)) ⌝ }
+{
+    if a {
+        return true;
+    }
+    if b {
+        return true;
+    }
+    c
+}
+
+// A field of x that stands in the map m has its absent number.
+fn plain_default(m: u8, x: Scenario) -> bool
+    ensures { λ r. ⌜ r ≡ plainDefault layout m x ⌝ }
+{
+    any(
+        both(x.velocity == 7_600, m / 8 % 2 == 1),
+        both(x.mechanism == 9, m / 16 % 2 == 1),
+        both(x.period == 0, m / 32 % 2 == 1),
+    )
+}
+
+// The first of reading's checks that s fails, 0 where it fails none.
+fn read_refusal(s: &[u8]) -> u8
+    ensures { λ r. ⌜ r ≡ readRefusal (now (s .entry)) ⌝ }
+{
+    if s.len() == 0 {
+        return 7;
+    }
+    let m = s[0];
+    let k = map_refusal(m);
+    if k != 0 {
+        return k;
+    }
+    if s.len() < record_length(m) {
+        return 7;
+    }
+    let x = fields(s);
+    if plain_default(m, x) {
+        return 11;
+    }
+    scenario::refusal(x)
+}
+
+pub fn read(s: &[u8]) -> Reading
+    ensures { λ r. ⌜ r ≡ readOf (now (s .entry)) ⌝ }
+{
+    let k = read_refusal(s);
+    if k != 0 {
+        return Reading::Refused(k);
+    }
+    Reading::Read(fields(s), record_length(s[0]))
+}
+
+// The part of s after the record that is read at its front.
+pub fn rest(s: &[u8]) -> &[u8]
+    ensures { λ r. ⌜ now r ≡ restOf (now (s .entry)) ⌝ }
+{
+    if read_refusal(s) != 0 {
+        return &s[..0];
+    }
+    let n = record_length(s[0]);
+    &s[n..]
+}
