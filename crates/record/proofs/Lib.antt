@@ -5,3 +5,5 @@ pub mod ByteLaws
 pub mod Agreement
 pub mod RoundTrip
 pub mod Laws
+pub mod Stores
+pub mod WritingLaws

@@ -28,8 +28,8 @@ unfolding allBelow
 below zero p t k h = absurd (not-suc-le-zero h)
 below (suc n) p t k h =
     elim (decLt k n) [
-      yes l ↦ below n p (both (p n) (allBelow n p) t .1) k l
-    | no l ↦ let e : k ≡ n = omega arith in rw e (both (p n) (allBelow n p) t .0)
+      | yes l ↦ below n p (both (p n) (allBelow n p) t .1) k l
+      | no l ↦ let e : k ≡ n = omega arith in rw e (both (p n) (allBelow n p) t .0)
     ]
 
 -- ---- every byte

@@ -52,8 +52,10 @@ numbers-back (f ∷ fs) m x s h w =
   where
     v : ℕ
     v = f .value x
+
     more : List ℕ
     more = partsOf fs x ++ s
+
     go : (b : Bool) → isAbsent (f .absent) v ≡ b → numbersOf fs m more ≡ map (λ g. g .value x) fs →
         cond (not b) (numberOf (take (f .width) (cond b [] (bytesOf (f .width) v) ++ more))) (absentNumber (f .absent)) ∷
         numbersOf fs m (drop (cond (not b) (f .width) 0) (cond b [] (bytesOf (f .width) v) ++ more)) ≡
@@ -65,6 +67,9 @@ numbers-back (f ∷ fs) m x s h w =
 pub length-back : (x : Scenario) → lengthBy (mapOf layout x) ≡ length (recordOf x)
 unfolding lengthBy recordOf
 length-back x = omega (arith, size-agrees layout (mapOf layout x) x (written-agrees x .1))
+
+pub length-written : (x : Scenario) {m n : ℕ} → n ≡ lengthBy m → m ≡ mapOf layout x → n ≡ length (recordOf x)
+length-written x e f = rw (e, f) (length-back x)
 
 module _ (x : Scenario) (s : List ℕ) where
   map-back : mapIn (recordOf x ++ s) ≡ mapOf layout x

@@ -3,13 +3,13 @@ ghost use mathlib.Core.Path.{_≡_};
 ghost use mathlib.Core.Bool.{cond, _&&_, _||_};
 ghost use mathlib.Core.List.{[], _∷_};
 ghost use Prim.Native.Nat.{_+_, _≤_, _<_};
-ghost use lib.Dec.{eqb};
 ghost use lib.ListN.{length, take, drop};
 ghost use lib.Seq.{sets};
-ghost use Rattle.record.specs.Layout.{layout, numberOf, plainDefault, mapOf};
-ghost use Rattle.record.specs.Layout.{bytesOf, partOf, partsOf, recordOf};
+ghost use mathlib.Core.Option.{some};
+ghost use Rattle.record.specs.Layout.{layout, numberOf, plainDefault, mapOf, partOf, partsOf};
 ghost use Rattle.record.specs.Outcome.{mapIn, scenarioIn, lengthBy, mapRefusal, readRefusal, readOf, restOf};
-ghost use Rattle.record.specs.Outcome.{readingNumber, writeOf, writeRefusal, writtenNumber, lentAfter};
+ghost use Rattle.record.specs.Outcome.{writeOf, lentAfter};
+ghost use Rattle.record.specs.Steps.{Put};
 use scenario::Scenario;
 
 // What reading answers: the scenario and the length of its record, or the number with which it is turned away.
@@ -189,4 +189,80 @@ pub fn rest(s: &[u8]) -> &[u8]
     }
     let n = record_length(s[0]);
     &s[n..]
+}
+
+// The map byte of x's record.
+fn map_byte(x: Scenario) -> u8
+    ensures { λ r. ⌜ r ≡ mapOf layout x ⌝ }
+{
+    let velocity = more_if(7, x.velocity != 7_600, 8);
+    let mechanism = more_if(velocity, x.mechanism != 9, 16);
+    more_if(mechanism, x.period != 0, 32) as u8
+}
+
+// Puts a field of one byte at a place, unless it has its absent number, and answers the place after it.
+fn put_byte(out: &mut [u8], at: usize, x: u8, absent: u8) -> usize
+    requires { ⌜ at + length (partOf 1 (some absent) x) ≤ length (now out) ⌝ }
+    ensures { λ r. ⌜ Put at (partOf 1 (some absent) x) (now (out .entry)) r (now (out .exit)) ⌝ }
+{
+    if x == absent {
+        return at;
+    }
+    out[at] = x;
+    at + 1
+}
+
+// The same of a field of two bytes.
+fn put_word(out: &mut [u8], at: usize, x: u16, absent: u16) -> usize
+    requires { ⌜ at + length (partOf 2 (some absent) x) ≤ length (now out) ⌝ }
+    ensures { λ r. ⌜ Put at (partOf 2 (some absent) x) (now (out .entry)) r (now (out .exit)) ⌝ }
+{
+    if x == absent {
+        return at;
+    }
+    out[at] = (x % 256) as u8;
+    out[at + 1] = (x / 256) as u8;
+    at + 2
+}
+
+// The map and the three fields that always stand.
+fn put_head(x: Scenario, m: u8, out: &mut [u8])
+    requires { ⌜ 5 < length (now out) ⌝ }
+    ensures { λ _. ⌜ now (out .exit) ≡ sets (now (out .entry)) 0 (m ∷ partsOf (take 3 layout) x) ⌝ }
+{
+    out[0] = m;
+    out[1] = x.model;
+    out[2] = (x.magnitude % 256) as u8;
+    out[3] = (x.magnitude / 256) as u8;
+    out[4] = (x.distance % 256) as u8;
+    out[5] = (x.distance / 256) as u8;
+}
+
+// The three that may be absent.
+fn put_tail(x: Scenario, out: &mut [u8])
+    requires { ⌜ 6 + length (partsOf (drop 3 layout) x) ≤ length (now out) ⌝ }
+    ensures { λ _. ⌜ now (out .exit) ≡ sets (now (out .entry)) 6 (partsOf (drop 3 layout) x) ⌝ }
+{
+    let mechanism_at = put_word(out, 6, x.velocity, 7_600);
+    let period_at = put_byte(out, mechanism_at, x.mechanism, 9);
+    put_word(out, period_at, x.period, 0);
+}
+
+// Puts the record of x at the front of out and answers its length.
+pub fn write(x: Scenario, out: &mut [u8]) -> Written
+    ensures { λ r. ⌜ r ≡ writeOf x (now (out .entry)) ⌝ }
+    ensures { λ r. ⌜ now (out .exit) ≡ lentAfter r x (now (out .entry)) ⌝ }
+{
+    let k = scenario::refusal(x);
+    if k != 0 {
+        return Written::Refused(k);
+    }
+    let m = map_byte(x);
+    let n = record_length(m);
+    if out.len() < n {
+        return Written::Refused(12);
+    }
+    put_head(x, m, out);
+    put_tail(x, out);
+    Written::Length(n)
 }

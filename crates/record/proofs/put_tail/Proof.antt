@@ -1,0 +1,32 @@
+-- `put_tail` meets its contract.
+use native.Mathlib.Omega.{arith}
+use borrow.Author.Needs.{needs}
+use Rattle.record.proofs.Stores.{tail-length, tail-stores}
+use Rattle.record.proofs.put_tail.Statement.{statement}
+use Rattle.record.proofs.put_tail.Tie as tie
+
+velocity-fits : tie.Need-put-word-requires
+velocity-fits c κs = omega (arith, tail-length (c .before .before .args .x))
+
+mechanism-fits : tie.Need-put-byte-requires
+mechanism-fits c κs =
+    let v = c .before .before .before in
+    let a = v .before .before .before in
+    omega (arith, tail-length (a .args .x), v .put-word .ensures .place, v .put-word .kept .0)
+
+period-fits : tie.Need-put-word-requires-2
+period-fits c κs =
+    let k = c .before .before .before in
+    let v = k .before .before .before .before in
+    let a = v .before .before .before in
+    omega (arith, tail-length (a .args .x), k .put-byte .ensures .place, k .put-byte .kept .0, v .put-word .ensures .place, v .put-word .kept .0)
+
+returns : tie.Need-returns
+returns c =
+    let p = c .before .before in
+    let k = p .before .before .before .before in
+    let v = k .before .before .before .before in
+    tail-stores (v .before .before .before .args .x) (v .put-word .ensures) (k .put-byte .ensures) (p .put-word2 .ensures)
+
+pub put-tail-spec : {M : Type 1} → statement M
+put-tail-spec = tie.close (tie.spec velocity-fits mechanism-fits period-fits (λ c. search needs) returns)

@@ -1,0 +1,79 @@
+-- `write` meets its contract.
+use mathlib.Core.Path.{_≡_, refl, sym, ap, _∙_}
+use Prim.Native.Nat.{ℕ, _≤_}
+use native.Mathlib.Omega.{arith}
+use borrow.Author.Needs.{needs}
+use lib.ListN.{length}
+use Rattle.record.specs.Layout.{recordOf}
+use Rattle.record.proofs.Agreement.{written-agrees}
+use Rattle.record.proofs.RoundTrip.{length-written}
+use Rattle.record.proofs.Stores.{record-length, record-stores}
+use Rattle.record.proofs.WritingLaws.{by-fields, page-full, is-written}
+use Rattle.record.proofs.write.Statement.{statement}
+use Rattle.record.proofs.write.Tie as tie
+
+refused : tie.Need-returns
+refused c =
+    let k = c .before .refusal in
+    (rw (k .ensures) (by-fields _ _ (λ e. c .if1 .taken (k .ensures ∙ e))), refl)
+
+map-passes : tie.Need-record-length-requires
+map-passes c κs = rw (c .map-byte .ensures) (written-agrees (c .before .before .before .before .args .x) .0)
+
+full : tie.Need-returns-2
+full c =
+    let n = c .before in
+    let m = n .before in
+    let k = m .before .before in
+    let a = k .before .before .args in
+    let size : n .record-length .result ≡ length (recordOf (a .x)) =
+    length-written (a .x) (n .record-length .ensures) (m .map-byte .ensures) in
+    (page-full (a .x) (a .out .now) (sym (k .refusal .ensures) ∙ m .before .if1 .left) (omega arith), refl)
+
+head-fits : tie.Need-put-head-requires
+head-fits c κs =
+    let n = c .before .before in
+    let m = n .before in
+    let x = m .before .before .before .before .args .x in
+    let size = length-written x (n .record-length .ensures) (m .map-byte .ensures) in
+    omega (arith, record-length x, size)
+
+tail-fits : tie.Need-put-tail-requires
+tail-fits c κs =
+    let h = c .before .before .before in
+    let n = h .before .before .before in
+    let m = n .before in
+    let x = m .before .before .before .before .args .x in
+    let size = length-written x (n .record-length .ensures) (m .map-byte .ensures) in
+    omega (arith, record-length x, size, h .put-head .kept .1 .1 .0)
+
+written : tie.Need-returns-3
+written c =
+    let t = c .before .before in
+    let h = t .before .before .before .before in
+    let n = h .before .before .before in
+    let m = n .before in
+    let k = m .before .before in
+    let a = k .before .before .args in
+    let size : n .record-length .result ≡ length (recordOf (a .x)) =
+    length-written (a .x) (n .record-length .ensures) (m .map-byte .ensures) in
+    let fits : length (recordOf (a .x)) ≤ length (a .out .now) = omega (arith, h .before .before .if2 .left) in
+    (
+      rw size (is-written (a .x) (a .out .now) (sym (k .refusal .ensures) ∙ m .before .if1 .left) fits),
+      rw size
+      (record-stores (a .x) (m .map-byte .result) (a .out .now) _ _ (m .map-byte .ensures) (h .put-head .ensures) (t .put-tail .ensures) fits),
+    )
+
+pub write-spec : {M : Type 1} → statement M
+write-spec =
+    tie.close
+    (tie.spec
+    (λ c κs. search needs)
+    refused
+    (λ c κs. search needs)
+    map-passes
+    full
+    head-fits
+    tail-fits
+    (λ c. search needs)
+    written)
