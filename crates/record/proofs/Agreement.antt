@@ -9,7 +9,7 @@ use native.Mathlib.Omega.{arith}
 use lib.Dec.{eqb}
 use lib.ListN.{length, length-append}
 use Rattle.scenario.specs.declared.Scenario.{Scenario}
-use Rattle.record.specs.Layout.{Field, layout, isAbsent, stands, sizeOf, plainDefault, bytesOf, mapOf, partsOf}
+use Rattle.record.specs.Layout.{Field, layout, isAbsent, stands, sizeOf, defaultWritten, bytesOf, mapOf, partsOf}
 use Rattle.record.specs.Outcome.{mapRefusal}
 use Rattle.record.proofs.ByteLaws.{bytes-length}
 use Rattle.record.proofs.MapLaws.{rebuilt}
@@ -43,8 +43,8 @@ map-agrees (f ∷ fs) m x h =
     go false = refl
 
 -- and no field written with its absent number
-pub apart-agrees : (fs : List Field) (m : ℕ) (x : Scenario) → Agree fs m x → plainDefault fs m x ≡ false
-unfolding plainDefault
+pub apart-agrees : (fs : List Field) (m : ℕ) (x : Scenario) → Agree fs m x → defaultWritten fs m x ≡ false
+unfolding defaultWritten
 apart-agrees [] m x h = refl
 apart-agrees (f ∷ fs) m x h =
     rw (h .0, apart-agrees fs m x (h .1)) (go (isAbsent (f .absent) (f .value x)))

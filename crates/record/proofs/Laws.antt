@@ -9,81 +9,87 @@ use lib.Dec.{ltb}
 use lib.ListN.{length, take, drop, length-append}
 use lib.Seq.{length-take-le}
 use Rattle.scenario.specs.declared.Scenario.{Scenario}
-use Rattle.scenario.specs.Lists.{_when_, _otherwise_}
+use Rattle.scenario.specs.Checks.{_otherwise_, unlessRefused}
 use Rattle.scenario.specs.Refusal.{refusalOf}
-use Rattle.scenario.proofs.ListLaws.{none-of, not-when}
+use Rattle.scenario.proofs.CheckLaws.{none-of, not-when}
 use Rattle.record.specs.declared.Reading.{Reading}
-use Rattle.record.specs.declared.Reading.the-variants.{Read, Refused}
+use Rattle.record.specs.declared.Reading.the-variants as R
 use Rattle.record.specs.declared.Written.{Written}
 use Rattle.record.specs.declared.Written.the-variants as W
 use Rattle.record.specs.Layout.{recordOf}
-use Rattle.record.specs.Outcome.{mapIn, scenarioIn, lengthBy, readRefusal, readingOf, readOf, restOf, writeRefusal, writtenOf, writeOf, lentAfter}
+use Rattle.record.specs.Outcome.{mapIn, scenarioIn, lengthBy, readRefusal, readOf, restOf, writeRefusal, writeOf, lentAfter}
 use Rattle.record.proofs.ByteLaws.{Bytes}
 use Rattle.record.proofs.ReadingLaws.{Accepted, accepted}
-use Rattle.record.proofs.RoundTrip.{length-back, read-written, rest-written, record-read}
+use Rattle.record.proofs.RoundTrip.{read-written, rest-written, record-read}
+use Rattle.record.proofs.WritingLaws.{is-written}
 
 -- ---- what is written is read back as the scenario, and the later bytes are the rest
 
-pub record WrittenIs (x : Scenario) (lent : List ℕ) (n : ℕ) : Type 0 where
-  pub taken : refusalOf x ≡ 0
-  pub size : length (recordOf x) ≡ n
-
-written-is : (x : Scenario) (lent : List ℕ) (n : ℕ) → writeOf x lent ≡ W.Length n → WrittenIs x lent n
-unfolding writeOf writeRefusal
-written-is x lent n e = go (writeRefusal x lent) refl e
-  where
-    go : (k : ℕ) → writeRefusal x lent ≡ k → writtenOf k (length (recordOf x)) ≡ W.Length n → WrittenIs x lent n
-    go zero p q = record { taken = none-of (refusalOf x) _ p .0; size = cc }
-    go (suc k) p q = let z : _≡_ {A = ℕ} 0 1 = cc in absurd (omega arith)
-
 module _ (x : Scenario) (lent : List ℕ) (n : ℕ) (e : writeOf x lent ≡ W.Length n) where
-  pub written-is-read : readOf (lentAfter (writeOf x lent) x lent) ≡ Read x n
-  written-is-read =
-      let w = written-is x lent n e in
-      rw e (rw (read-written x (drop n lent) (w .taken), w .size) refl)
+  not-refused : writeRefusal x lent ≡ 0
+  unfolding writeOf
+  not-refused = go (writeRefusal x lent) refl e
+    where
+      go : (k : ℕ) → writeRefusal x lent ≡ k →
+          unlessRefused k (W.Length (length (recordOf x))) (W.Refused k) ≡ W.Length n → writeRefusal x lent ≡ 0
+      go zero p q = p
+      go (suc k) p q = let z : _≡_ {A = ℕ} 0 1 = cc in absurd (omega arith)
 
-  pub later-is-rest : restOf (lentAfter (writeOf x lent) x lent) ≡ drop n lent
-  later-is-rest =
-      let w = written-is x lent n e in
-      rw e (rest-written x (drop n lent) (w .taken))
+  size : length (recordOf x) ≡ n
+  unfolding writeOf
+  size = let f = rw not-refused at e in cc
+
+  taken : refusalOf x ≡ 0
+  unfolding writeRefusal
+  taken = none-of (refusalOf x) _ not-refused .0
+
+  pub written-is-read : readOf (lentAfter x lent) ≡ R.Read x n
+  unfolding lentAfter
+  written-is-read = rw (not-refused, read-written x (drop (length (recordOf x)) lent) taken, size) refl
+
+  pub later-is-rest : restOf (lentAfter x lent) ≡ drop n lent
+  unfolding lentAfter
+  later-is-rest = rw (not-refused, rest-written x (drop (length (recordOf x)) lent) taken, size) refl
 
 -- ---- what is read is written as exactly the bytes that were read
 
-pub record ReadIs (s : List ℕ) (x : Scenario) (n : ℕ) : Type 0 where
-  pub passes : readRefusal s ≡ 0
-  pub scenario : scenarioIn s ≡ x
-  pub size : lengthBy (mapIn s) ≡ n
+module _ (s : List ℕ) (h : Bytes s) (x : Scenario) (n : ℕ) (e : readOf s ≡ R.Read x n) where
+  passes : readRefusal s ≡ 0
+  unfolding readOf
+  passes = go (readRefusal s) refl e
+    where
+      go : (k : ℕ) → readRefusal s ≡ k →
+          unlessRefused k (R.Read (scenarioIn s) (lengthBy (mapIn s))) (R.Refused k) ≡ R.Read x n → readRefusal s ≡ 0
+      go zero p q = p
+      go (suc k) p q = let z : _≡_ {A = ℕ} 0 1 = cc in absurd (omega arith)
 
-read-is : (s : List ℕ) (x : Scenario) (n : ℕ) → readOf s ≡ Read x n → ReadIs s x n
-unfolding readOf
-read-is s x n e = go (readRefusal s) refl e
-  where
-    go : (k : ℕ) → readRefusal s ≡ k → readingOf k (scenarioIn s) (lengthBy (mapIn s)) ≡ Read x n → ReadIs s x n
-    go zero p q = record { passes = p; scenario = cc; size = cc }
-    go (suc k) p q = let z : _≡_ {A = ℕ} 0 1 = cc in absurd (omega arith)
+  scenario-is : scenarioIn s ≡ x
+  unfolding readOf
+  scenario-is = let f = rw passes at e in cc
 
-module _ (s : List ℕ) (h : Bytes s) (x : Scenario) (n : ℕ) (e : readOf s ≡ Read x n) where
+  length-is : lengthBy (mapIn s) ≡ n
+  unfolding readOf
+  length-is = let f = rw passes at e in cc
+
   pub read-is-record : recordOf x ≡ take n s
-  read-is-record =
-      let r = read-is s x n e in
-      rw (← r .scenario, ← r .size) (record-read s h (accepted s (r .passes)))
+  read-is-record = rw (← scenario-is, ← length-is) (record-read s h (accepted s passes))
 
-  pub read-length : length (recordOf x) ≡ n
-  read-length =
-      let r = read-is s x n e in
-      let a = accepted s (r .passes) in
-      ap length read-is-record ∙ length-take-le n s (omega (arith, a .room, r .size))
+  record-size : length (recordOf x) ≡ n
+  record-size =
+      let a = accepted s passes in
+      ap length read-is-record ∙ length-take-le n s (omega (arith, a .room, length-is))
+
+  accepted-scenario : refusalOf x ≡ 0
+  accepted-scenario = rw scenario-is at (accepted s passes .taken)
 
   pub read-is-written : (lent : List ℕ) → n ≤ length lent →
-      (writeOf x lent ≡ W.Length n) × (lentAfter (W.Length n) x lent ≡ take n s ++ drop n lent)
-  unfolding writeOf writeRefusal
+      (writeOf x lent ≡ W.Length n) × (lentAfter x lent ≡ take n s ++ drop n lent)
   read-is-written lent l =
-      let r = read-is s x n e in
-      let t : refusalOf x ≡ 0 = rw (r .scenario) at (accepted s (r .passes) .taken) in
-      (rw (t, read-length, le-ltb (length lent) n l) refl, rw read-is-record refl)
+      let w = is-written x lent accepted-scenario (rw record-size l) in
+      (sym (rw record-size at (w .answer)), sym (rw (record-size, read-is-record) at (w .bytes)))
 
 -- ---- and so an accepted scenario has one record
 
-pub one-record : (s t : List ℕ) → Bytes s → Bytes t → (x : Scenario) (n k : ℕ) → readOf s ≡ Read x n →
-    readOf t ≡ Read x k → take n s ≡ take k t
+pub one-record : (s t : List ℕ) → Bytes s → Bytes t → (x : Scenario) (n k : ℕ) → readOf s ≡ R.Read x n →
+    readOf t ≡ R.Read x k → take n s ≡ take k t
 one-record s t h g x n k e f = sym (read-is-record s h x n e) ∙ read-is-record t g x k f

@@ -8,8 +8,8 @@ use native.Mathlib.Decide.{decLt}
 use native.Mathlib.Omega.{arith}
 use borrow.Author.Tests.{leb-false, lt-leb}
 use lib.Dec.{T, eqb, leb, eqb→eq}
-use Rattle.scenario.specs.Lists.{_when_, _otherwise_}
-use Rattle.scenario.proofs.ListLaws.{none-of, not-when}
+use Rattle.scenario.specs.Checks.{_when_, _otherwise_}
+use Rattle.scenario.proofs.CheckLaws.{none-of, not-when}
 use Rattle.record.specs.Layout.{Field, layout, stands, sizeOf}
 use Rattle.record.specs.Outcome.{mapRefusal, lengthBy}
 

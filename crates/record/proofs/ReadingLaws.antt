@@ -1,5 +1,5 @@
 -- What a reading that is not refused says of the bytes.
-use mathlib.Core.Path.{_≡_, refl}
+use mathlib.Core.Path.{_≡_, refl, sym}
 use mathlib.Core.Bool.{false}
 use mathlib.Core.List.{List, []}
 use Prim.Native.Nat.{ℕ, zero, suc, _≤_, _<_}
@@ -7,21 +7,19 @@ use native.Mathlib.Omega.{arith}
 use borrow.Author.Tests.{eqb-false, ltb-false}
 use lib.Dec.{eqb, ltb}
 use lib.ListN.{length, drop}
-use Rattle.scenario.specs.declared.Scenario.{Scenario}
-use Rattle.scenario.specs.Lists.{_when_, _otherwise_}
+use Rattle.scenario.specs.Checks.{_when_, _otherwise_, unlessRefused}
 use Rattle.scenario.specs.Refusal.{refusalOf}
-use Rattle.scenario.proofs.ListLaws.{none-of, not-when}
-use Rattle.record.specs.declared.Reading.{Reading}
+use Rattle.scenario.proofs.CheckLaws.{none-of, not-when, is-refused}
 use Rattle.record.specs.declared.Reading.the-variants.{Read, Refused}
-use Rattle.record.specs.Layout.{layout, plainDefault}
-use Rattle.record.specs.Outcome.{mapIn, scenarioIn, lengthBy, mapRefusal, readRefusal, readingOf, readOf, restOf}
+use Rattle.record.specs.Layout.{layout, defaultWritten}
+use Rattle.record.specs.Outcome.{mapIn, scenarioIn, lengthBy, mapRefusal, readRefusal, readOf, restOf, ReadPromise}
 
 -- s passes every check of reading
 pub record Accepted (s : List ℕ) : Type 0 where
   pub some : 0 < length s
   pub passes : mapRefusal (mapIn s) ≡ 0
   pub room : lengthBy (mapIn s) ≤ length s
-  pub apart : plainDefault layout (mapIn s) (scenarioIn s) ≡ false
+  pub apart : defaultWritten layout (mapIn s) (scenarioIn s) ≡ false
   pub taken : refusalOf (scenarioIn s) ≡ 0
 
 pub accepted : (s : List ℕ) → readRefusal s ≡ 0 → Accepted s
@@ -31,7 +29,7 @@ accepted s e =
     let a = none-of (7 when eqb (length s) 0) _ e in
     let b = none-of (mapRefusal m) _ (a .1) in
     let c = none-of (7 when ltb (length s) (lengthBy m)) _ (b .1) in
-    let d = none-of (11 when plainDefault layout m (scenarioIn s)) _ (c .1) in
+    let d = none-of (11 when defaultWritten layout m (scenarioIn s)) _ (c .1) in
     let z = eqb-false (length s) 0 (not-when 6 _ (a .0)) in
     record {
       some = omega (arith, z);
@@ -41,14 +39,20 @@ accepted s e =
       taken = d .1;
     }
 
-pub is-refused : (k : ℕ) (x : Scenario) (n : ℕ) → (k ≡ 0 → ⊥) → Refused k ≡ readingOf k x n
-is-refused zero x n h = absurd (h refl)
-is-refused (suc k) x n h = refl
-
 pub no-rest : (s : List ℕ) → (readRefusal s ≡ 0 → ⊥) → [] ≡ restOf s
-unfolding restOf readOf
-no-rest s h = rw (← is-refused (readRefusal s) (scenarioIn s) (lengthBy (mapIn s)) h) refl
+unfolding restOf
+no-rest s h = is-refused (readRefusal s) (drop (lengthBy (mapIn s)) s) [] h
 
 pub rest-is : (s : List ℕ) → readRefusal s ≡ 0 → restOf s ≡ drop (lengthBy (mapIn s)) s
-unfolding restOf readOf
+unfolding restOf
 rest-is s e = rw e refl
+
+-- what is read keeps the promise
+pub read-promise : (s : List ℕ) → ReadPromise s (readOf s)
+unfolding readOf
+read-promise s = go (readRefusal s) refl
+  where
+    go : (k : ℕ) → readRefusal s ≡ k →
+        ReadPromise s (unlessRefused k (Read (scenarioIn s) (lengthBy (mapIn s))) (Refused k))
+    go zero e = record { number = sym e; values = rw e refl }
+    go (suc k) e = record { number = sym e; values = rw e refl }

@@ -14,7 +14,7 @@ use Rattle.scenario.specs.declared.Scenario.{Scenario}
 use Rattle.scenario.specs.Refusal.{refusalOf}
 use Rattle.record.specs.Outcome.{mapIn, scenarioIn, lengthBy, mapRefusal, readRefusal, readOf, restOf}
 use Rattle.record.specs.declared.Reading.the-variants.{Read}
-use Rattle.record.specs.Layout.{Field, layout, isAbsent, absentNumber, stands, numberOf, sizeOf, numbersOf, plainDefault, bytesOf, mapOf, partOf, partsOf, recordOf}
+use Rattle.record.specs.Layout.{Field, layout, isAbsent, absentNumber, stands, numberOf, sizeOf, numbersOf, defaultWritten, bytesOf, mapOf, partOf, partsOf, recordOf}
 use Rattle.record.proofs.ByteLaws.{Bytes, bytes-drop, bytes-length, number-back, bytes-back}
 use Rattle.record.proofs.ReadingLaws.{Accepted, accepted}
 use Rattle.record.proofs.MapLaws.{passed, map-rebuilt, map-small}
@@ -97,7 +97,7 @@ module _ (x : Scenario) (s : List ℕ) where
   -- and the rest is what followed
   pub rest-written : refusalOf x ≡ 0 → restOf (recordOf x ++ s) ≡ s
   unfolding restOf
-  rest-written e = rw (read-written e) (drop-append-seam (recordOf x) s)
+  rest-written e = rw (passes-back e, map-back, length-back x) (drop-append-seam (recordOf x) s)
 
 -- ---- writing undoes reading
 
@@ -141,18 +141,18 @@ kept w (some d) v false s e a r h l =
 
 -- and all of them
 all-kept : (fs : List Field) (m : ℕ) (x : Scenario) (s : List ℕ) → numbersOf fs m s ≡ map (λ f. f .value x) fs →
-    plainDefault fs m x ≡ false → Required fs m → Bytes s → sizeOf fs m ≤ length s →
+    defaultWritten fs m x ≡ false → Required fs m → Bytes s → sizeOf fs m ≤ length s →
     Agree fs m x × (partsOf fs x ≡ take (sizeOf fs m) s)
-unfolding numbersOf plainDefault sizeOf partsOf
+unfolding numbersOf defaultWritten sizeOf partsOf
 all-kept [] m x s e a r h l = (tt, refl)
 all-kept (f ∷ fs) m x s e a r h l =
     let b = stands (f .bit) m in
     let n = cond b (f .width) 0 in
     let here = isAbsent (f .absent) (f .value x) && b in
     let k =
-    kept (f .width) (f .absent) (f .value x) b s (cc) (or-left here (plainDefault fs m x) a) (r .0) h (omega arith) in
+    kept (f .width) (f .absent) (f .value x) b s (cc) (or-left here (defaultWritten fs m x) a) (r .0) h (omega arith) in
     let ih =
-    all-kept fs m x (drop n s) (cc) (or-right here (plainDefault fs m x) a) (r .1) (bytes-drop n s h) (simp length-drop (omega arith)) in
+    all-kept fs m x (drop n s) (cc) (or-right here (defaultWritten fs m x) a) (r .1) (bytes-drop n s h) (simp length-drop (omega arith)) in
     ((k .0, ih .0), rw (k .1, ih .1) (sym (take-add n (sizeOf fs m) s)))
 
 front : (n : ℕ) (s : List ℕ) → 0 < length s → take (1 + n) s ≡ mapIn s ∷ take n (drop 1 s)

@@ -1,31 +1,57 @@
--- What writing answers, check by check.
+-- What writing answers and leaves, check by check.
 use mathlib.Core.Path.{_≡_, refl, sym, ap, _∙_}
-use mathlib.Core.List.{List}
+use mathlib.Core.List.{List, _++_}
 use Prim.Native.Nat.{ℕ, zero, suc, _≤_, _<_}
+use native.Mathlib.Omega.{arith}
 use borrow.Author.Tests.{lt-ltb, le-ltb}
-use lib.ListN.{length}
+use lib.ListN.{length, drop}
 use Rattle.scenario.specs.declared.Scenario.{Scenario}
+use Rattle.scenario.specs.Checks.{unlessRefused}
 use Rattle.scenario.specs.Refusal.{refusalOf}
-use Rattle.scenario.proofs.ListLaws.{is-first}
+use Rattle.scenario.proofs.CheckLaws.{is-first, is-refused}
+use Rattle.record.specs.declared.Written.{Written}
 use Rattle.record.specs.declared.Written.the-variants.{Length, Refused}
 use Rattle.record.specs.Layout.{recordOf}
-use Rattle.record.specs.Outcome.{writeRefusal, writtenOf, writeOf}
+use Rattle.record.specs.Outcome.{writeRefusal, writeOf, lentAfter, WritePromise}
 
-refused : (k n : ℕ) → (k ≡ 0 → ⊥) → Refused k ≡ writtenOf k n
-refused zero n h = absurd (h refl)
-refused (suc k) n h = refl
+-- the contract of writing, of an answer and the bytes that it leaves
+pub record Keeps (x : Scenario) (lent : List ℕ) (r : Written) (after : List ℕ) : Type 0 where
+  pub answer : r ≡ writeOf x lent
+  pub promise : WritePromise x lent r
+  pub bytes : after ≡ lentAfter x lent
 
 module _ (x : Scenario) (lent : List ℕ) where
-  pub by-fields : (refusalOf x ≡ 0 → ⊥) → Refused (refusalOf x) ≡ writeOf x lent
-  unfolding writeOf writeRefusal
-  by-fields h =
-      refused (refusalOf x) (length (recordOf x)) h
-      ∙ ap (λ (k : ℕ). writtenOf k (length (recordOf x))) (is-first (refusalOf x) _ h)
+  write-promise : WritePromise x lent (writeOf x lent)
+  unfolding writeOf
+  write-promise = go (writeRefusal x lent) refl
+    where
+      go : (k : ℕ) → writeRefusal x lent ≡ k →
+          WritePromise x lent (unlessRefused k (Length (length (recordOf x))) (Refused k))
+      go zero e = record { number = sym e; values = rw e refl }
+      go (suc k) e = record { number = sym e; values = rw e refl }
 
-  pub page-full : refusalOf x ≡ 0 → length lent < length (recordOf x) → Refused 12 ≡ writeOf x lent
-  unfolding writeOf writeRefusal
-  page-full e l = rw (e, lt-ltb (length lent) (length (recordOf x)) l) refl
+  keeps : {r : Written} {after : List ℕ} → r ≡ writeOf x lent → after ≡ lentAfter x lent → Keeps x lent r after
+  keeps e f = record { answer = e; promise = rw e write-promise; bytes = f }
 
-  pub is-written : refusalOf x ≡ 0 → length (recordOf x) ≤ length lent → Length (length (recordOf x)) ≡ writeOf x lent
-  unfolding writeOf writeRefusal
-  is-written e l = rw (e, le-ltb (length lent) (length (recordOf x)) l) refl
+  -- refused with k: nothing is changed
+  refused : (k : ℕ) → k ≡ writeRefusal x lent → (k ≡ 0 → ⊥) → Keeps x lent (Refused k) lent
+  unfolding writeOf lentAfter
+  refused k e h =
+      keeps (rw (← e) (is-refused k _ (Refused k) h)) (rw (← e) (is-refused k _ lent h))
+
+  pub refused-by-fields : (k : ℕ) → k ≡ refusalOf x → (k ≡ 0 → ⊥) → Keeps x lent (Refused k) lent
+  unfolding writeRefusal
+  refused-by-fields k e h = refused k (e ∙ is-first (refusalOf x) _ (λ z. h (e ∙ z))) h
+
+  pub no-room : refusalOf x ≡ 0 → length lent < length (recordOf x) → Keeps x lent (Refused 12) lent
+  unfolding writeRefusal
+  no-room e l = refused 12 (rw (e, lt-ltb (length lent) (length (recordOf x)) l) refl) (λ z. omega arith)
+
+  not-refused : refusalOf x ≡ 0 → length (recordOf x) ≤ length lent → writeRefusal x lent ≡ 0
+  unfolding writeRefusal
+  not-refused e l = rw (e, le-ltb (length lent) (length (recordOf x)) l) refl
+
+  pub is-written : refusalOf x ≡ 0 → length (recordOf x) ≤ length lent →
+      Keeps x lent (Length (length (recordOf x))) (recordOf x ++ drop (length (recordOf x)) lent)
+  unfolding writeOf lentAfter
+  is-written e l = keeps (rw (not-refused e l) refl) (rw (not-refused e l) refl)

@@ -77,9 +77,9 @@ numbersOf (f ∷ fs) m s =
     numbersOf fs m (drop (cond (stands (f .bit) m) (f .width) 0) s)
 
 -- "a field written with its absent number"
-unfoldable pub plainDefault : List Field → ℕ → Scenario → Bool
-plainDefault [] m x = false
-plainDefault (f ∷ fs) m x = (isAbsent (f .absent) (f .value x) && stands (f .bit) m) || plainDefault fs m x
+unfoldable pub defaultWritten : List Field → ℕ → Scenario → Bool
+defaultWritten [] m x = false
+defaultWritten (f ∷ fs) m x = (isAbsent (f .absent) (f .value x) && stands (f .bit) m) || defaultWritten fs m x
 
 -- ---- to a record
 

@@ -1,32 +1,35 @@
 -- What reading and writing answer, and the bytes that they hand back or leave.
 -- Document 01, 'Records and doubles' and 'What is turned away'.
-use mathlib.Core.Bool.{not, cond, _&&_, _||_}
+use mathlib.Core.Path.{_≡_}
+use mathlib.Core.Bool.{not, _&&_, _||_}
 use mathlib.Core.List.{List, [], _∷_, _++_, map}
-use Prim.Native.Nat.{ℕ, zero, suc, _+_}
+use Prim.Native.Nat.{ℕ, _+_}
 use lib.Dec.{eqb, ltb}
 use lib.ListN.{length, getD, drop}
 use Rattle.scenario.specs.declared.Scenario.{Scenario}
-use Rattle.scenario.specs.Lists.{_when_, _otherwise_}
+use Rattle.scenario.specs.Checks.{_when_, _otherwise_, unlessRefused}
 use Rattle.scenario.specs.Refusal.{refusalOf}
 use Rattle.record.specs.declared.Reading.{Reading}
-use Rattle.record.specs.declared.Reading.the-variants.{Read, Refused}
+use Rattle.record.specs.declared.Reading.the-variants as R
 use Rattle.record.specs.declared.Written.{Written}
 use Rattle.record.specs.declared.Written.the-variants as W
-use Rattle.record.specs.Layout.{Field, layout, scenarioOf, stands, sizeOf, numbersOf, plainDefault, recordOf}
+use Rattle.record.specs.Layout.{Field, layout, scenarioOf, stands, sizeOf, numbersOf, defaultWritten, recordOf}
 
 -- ---- reading
 
--- the map byte at the front of s, the scenario and the length of the record there
+-- the map byte at the front of s
 abbrev pub mapIn : List ℕ → ℕ
 mapIn s = getD s 0 0
 
+-- the scenario of the record there
 unfoldable pub scenarioIn : List ℕ → Scenario
 scenarioIn s = scenarioOf (numbersOf layout (mapIn s) (drop 1 s))
 
+-- the length of a record with the map byte m
 unfoldable pub lengthBy : ℕ → ℕ
 lengthBy m = 1 + sizeOf layout m
 
--- the checks of the map byte m: 8 "bit 6 or 7 stands", 9 "bit 0, 1 or 2 is clear", 10 "no bit stands"
+-- the checks of the map byte: 8 "bit 6 or 7 stands", 9 "bit 0, 1 or 2 is clear", 10 "no bit stands"
 unfoldable pub mapRefusal : ℕ → ℕ
 mapRefusal m =
     8 when (stands 6 m || stands 7 m) otherwise
@@ -39,34 +42,33 @@ readRefusal s =
     7 when eqb (length s) 0 otherwise
     mapRefusal (mapIn s) otherwise
     7 when ltb (length s) (lengthBy (mapIn s)) otherwise
-    11 when plainDefault layout (mapIn s) (scenarioIn s) otherwise
+    11 when defaultWritten layout (mapIn s) (scenarioIn s) otherwise
     refusalOf (scenarioIn s)
 
--- a reading with a number of 'What is turned away', or with the scenario and the record's length where it is 0
-abbrev pub readingOf : ℕ → Scenario → ℕ → Reading
-readingOf zero x n = Read x n
-readingOf (suc k) x n = Refused (suc k)
-
 unfoldable pub readOf : List ℕ → Reading
-readOf s = readingOf (readRefusal s) (scenarioIn s) (lengthBy (mapIn s))
-
--- document 01's number of a reading, 0 where nothing is turned away
-abbrev pub readingNumber : Reading → ℕ
-readingNumber (Read x n) = 0
-readingNumber (Refused k) = k
-
--- and its values: the fields in the layout's order and the record's length; "A refusal returns its number only"
-abbrev pub readingValues : Reading → List ℕ
-readingValues (Read x n) = map (λ f. f .value x) layout ++ (n ∷ [])
-readingValues (Refused k) = []
+readOf s = unlessRefused (readRefusal s) (R.Read (scenarioIn s) (lengthBy (mapIn s))) (R.Refused (readRefusal s))
 
 -- "the rest of the caller's bytes"; "a refused read hands back none of the bytes"
-abbrev pub restAfter : Reading → List ℕ → List ℕ
-restAfter (Read x n) s = drop n s
-restAfter (Refused k) s = []
-
 unfoldable pub restOf : List ℕ → List ℕ
-restOf s = restAfter (readOf s) s
+restOf s = unlessRefused (readRefusal s) (drop (lengthBy (mapIn s)) s) []
+
+-- "this paper's number and values for each of its cases": 0 is no refusal
+abbrev pub readingNumber : Reading → ℕ
+readingNumber (R.Read x n) = 0
+readingNumber (R.Refused k) = k
+
+-- the fields in the layout's order, and the record's length
+abbrev pub valuesOf : Scenario → ℕ → List ℕ
+valuesOf x n = map (λ f. f .value x) layout ++ (n ∷ [])
+
+abbrev pub readingValues : Reading → List ℕ
+readingValues (R.Read x n) = valuesOf x n
+readingValues (R.Refused k) = []
+
+-- what is promised of a reading of s, by number and values: "A refusal returns its number only"
+pub record ReadPromise (s : List ℕ) (r : Reading) : Type 0 where
+  pub number : readingNumber r ≡ readRefusal s
+  pub values : readingValues r ≡ unlessRefused (readRefusal s) (valuesOf (scenarioIn s) (lengthBy (mapIn s))) []
 
 -- ---- writing
 
@@ -74,15 +76,16 @@ restOf s = restAfter (readOf s) s
 unfoldable pub writeRefusal : Scenario → List ℕ → ℕ
 writeRefusal x lent = refusalOf x otherwise 12 when ltb (length lent) (length (recordOf x))
 
--- a number of 'What is turned away', or the record's length where it is 0
-abbrev pub writtenOf : ℕ → ℕ → Written
-writtenOf zero n = W.Length n
-writtenOf (suc k) n = W.Refused (suc k)
-
+-- "it returns the record's length"
 unfoldable pub writeOf : Scenario → List ℕ → Written
-writeOf x lent = writtenOf (writeRefusal x lent) (length (recordOf x))
+writeOf x lent =
+    unlessRefused (writeRefusal x lent) (W.Length (length (recordOf x))) (W.Refused (writeRefusal x lent))
 
--- document 01's number and values of what writing answers
+-- the lent bytes afterwards: "the record at the front of the lent bytes", "all later bytes unchanged"; with a refusal
+-- "lent bytes do not change"
+unfoldable pub lentAfter : Scenario → List ℕ → List ℕ
+lentAfter x lent = unlessRefused (writeRefusal x lent) (recordOf x ++ drop (length (recordOf x)) lent) lent
+
 abbrev pub writtenNumber : Written → ℕ
 writtenNumber (W.Length n) = 0
 writtenNumber (W.Refused k) = k
@@ -91,8 +94,7 @@ abbrev pub writtenValues : Written → List ℕ
 writtenValues (W.Length n) = n ∷ []
 writtenValues (W.Refused k) = []
 
--- the lent bytes afterwards: "the record at the front of the lent bytes", "all later bytes unchanged"; with a refusal
--- "lent bytes do not change"
-abbrev pub lentAfter : Written → Scenario → List ℕ → List ℕ
-lentAfter (W.Length n) x lent = recordOf x ++ drop n lent
-lentAfter (W.Refused k) x lent = lent
+-- what is promised of writing x to lent bytes
+pub record WritePromise (x : Scenario) (lent : List ℕ) (r : Written) : Type 0 where
+  pub number : writtenNumber r ≡ writeRefusal x lent
+  pub values : writtenValues r ≡ unlessRefused (writeRefusal x lent) (length (recordOf x) ∷ []) []

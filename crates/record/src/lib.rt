@@ -6,9 +6,9 @@ ghost use Prim.Native.Nat.{_+_, _≤_, _<_};
 ghost use lib.ListN.{length, take, drop};
 ghost use lib.Seq.{sets};
 ghost use mathlib.Core.Option.{some};
-ghost use Rattle.record.specs.Layout.{layout, numberOf, plainDefault, mapOf, partOf, partsOf};
-ghost use Rattle.record.specs.Outcome.{mapIn, scenarioIn, lengthBy, mapRefusal, readRefusal, readOf, restOf};
-ghost use Rattle.record.specs.Outcome.{writeOf, lentAfter};
+ghost use Rattle.record.specs.Layout.{layout, numberOf, defaultWritten, mapOf, partOf, partsOf};
+ghost use Rattle.record.specs.Outcome.{mapIn, scenarioIn, lengthBy, mapRefusal, readRefusal, readOf, restOf, ReadPromise};
+ghost use Rattle.record.specs.Outcome.{writeOf, lentAfter, WritePromise};
 ghost use Rattle.record.specs.Steps.{Put};
 use scenario::Scenario;
 
@@ -138,8 +138,8 @@ fn any(a: bool, b: bool, c: bool) -> bool
 }
 
 // A field of x that stands in the map m has its absent number.
-fn plain_default(m: u8, x: Scenario) -> bool
-    ensures { λ r. ⌜ r ≡ plainDefault layout m x ⌝ }
+fn default_written(m: u8, x: Scenario) -> bool
+    ensures { λ r. ⌜ r ≡ defaultWritten layout m x ⌝ }
 {
     any(
         both(x.velocity == 7_600, m / 8 % 2 == 1),
@@ -164,7 +164,7 @@ fn read_refusal(s: &[u8]) -> u8
         return 7;
     }
     let x = fields(s);
-    if plain_default(m, x) {
+    if default_written(m, x) {
         return 11;
     }
     scenario::refusal(x)
@@ -172,6 +172,7 @@ fn read_refusal(s: &[u8]) -> u8
 
 pub fn read(s: &[u8]) -> Reading
     ensures { λ r. ⌜ r ≡ readOf (now (s .entry)) ⌝ }
+    ensures { λ r. ⌜ ReadPromise (now (s .entry)) r ⌝ }
 {
     let k = read_refusal(s);
     if k != 0 {
@@ -251,7 +252,8 @@ fn put_tail(x: Scenario, out: &mut [u8])
 // Puts the record of x at the front of out and answers its length.
 pub fn write(x: Scenario, out: &mut [u8]) -> Written
     ensures { λ r. ⌜ r ≡ writeOf x (now (out .entry)) ⌝ }
-    ensures { λ r. ⌜ now (out .exit) ≡ lentAfter r x (now (out .entry)) ⌝ }
+    ensures { λ r. ⌜ WritePromise x (now (out .entry)) r ⌝ }
+    ensures { λ _. ⌜ now (out .exit) ≡ lentAfter x (now (out .entry)) ⌝ }
 {
     let k = scenario::refusal(x);
     if k != 0 {

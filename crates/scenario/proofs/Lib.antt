@@ -1,2 +1,3 @@
+pub mod CheckLaws
 pub mod ListLaws
 pub mod RowLaws

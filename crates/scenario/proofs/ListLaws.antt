@@ -1,13 +1,12 @@
--- Laws of a search through a list and of the first of several numbers, for any of them.
+-- Laws of a search through a list, for any list.
 use mathlib.Core.Path.{_≡_, refl, ap, _∙_}
 use mathlib.Core.Bool.{Bool, true, false, not, _||_, cond}
 use mathlib.Core.List.{List, [], _∷_}
-use Prim.Native.Nat.{ℕ, zero, suc}
-use native.Mathlib.Omega.{arith}
+use Prim.Native.Nat.{ℕ, suc}
 use borrow.Author.Tests.{ne-eqb}
 use lib.Dec.{eqb, leb, eqb·suc-suc, eqb·zero-suc}
 use lib.ListN.{length}
-use Rattle.scenario.specs.Lists.{among, placeIn, _when_, _otherwise_}
+use Rattle.scenario.specs.Lists.{among, placeIn}
 
 -- x is none of the numbers of a list, as a match has it, after what it has before
 abbrev pub Missed : Type 0 → List ℕ → ℕ → Type 0
@@ -33,18 +32,3 @@ past-the-end (y ∷ ys) x = go (eqb x y) (past-the-end ys x)
         eqb (cond b 0 (suc (placeIn ys x))) (suc (length ys)) ≡ not (b || among ys x)
     go true e = eqb·zero-suc (length ys)
     go false e = eqb·suc-suc (placeIn ys x) (length ys) ∙ e
-
--- ---- the first number that is not 0
-
-pub is-first : (j k : ℕ) → (j ≡ 0 → ⊥) → j ≡ (j otherwise k)
-is-first zero k h = absurd (h refl)
-is-first (suc j) k h = refl
-
--- none of two numbers
-pub none-of : (j k : ℕ) → (j otherwise k) ≡ 0 → (j ≡ 0) × (k ≡ 0)
-none-of zero k e = (refl, e)
-none-of (suc j) k e = absurd (omega arith)
-
-pub not-when : (k : ℕ) (b : Bool) → (suc k when b) ≡ 0 → b ≡ false
-not-when k true e = absurd (omega arith)
-not-when k false e = refl

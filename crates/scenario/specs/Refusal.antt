@@ -4,7 +4,8 @@ use mathlib.Core.Bool.{Bool, not, cond, _&&_}
 use mathlib.Core.List.{List, [], _∷_}
 use Prim.Native.Nat.{ℕ}
 use lib.Dec.{eqb}
-use Rattle.scenario.specs.Lists.{Range, _to_, beyond, among, placeIn, _without_, _when_, _otherwise_}
+use Rattle.scenario.specs.Checks.{Range, _to_, beyond, _when_, _otherwise_}
+use Rattle.scenario.specs.Lists.{among, placeIn, _without_}
 use Rattle.scenario.specs.declared.Scenario.{Scenario}
 
 -- a model's column of the table in 'The scenario'

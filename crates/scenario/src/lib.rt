@@ -2,7 +2,8 @@
 ghost use mathlib.Core.Path.{_≡_};
 ghost use mathlib.Core.Bool.{not};
 ghost use mathlib.Core.List.{[], _∷_};
-ghost use Rattle.scenario.specs.Lists.{_to_, beyond, among, _when_, _otherwise_};
+ghost use Rattle.scenario.specs.Checks.{_to_, beyond, _when_, _otherwise_};
+ghost use Rattle.scenario.specs.Lists.{among};
 ghost use Rattle.scenario.specs.Refusal.{idriss, booreAtkinson, refusalBy, refusalOf, idrissRow, booreAtkinsonRow};
 
 pub struct Scenario {

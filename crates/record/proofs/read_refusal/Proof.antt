@@ -2,7 +2,7 @@
 use mathlib.Core.Path.{sym, _∙_}
 use borrow.Author.Needs.{needs}
 use borrow.Author.Tests.{eq-eqb, ne-eqb, lt-ltb, le-ltb}
-use Rattle.scenario.proofs.ListLaws.{is-first}
+use Rattle.scenario.proofs.CheckLaws.{is-first}
 use Rattle.record.specs.Outcome.{readRefusal}
 use Rattle.record.proofs.read_refusal.Statement.{statement}
 use Rattle.record.proofs.read_refusal.Tie as tie
@@ -32,7 +32,7 @@ plain c =
     let n = x .before .before in
     let k = n .before .before in
     simp
-    (ne-eqb _ _ (k .before .before .if1 .left), sym (k .map-refusal .ensures), n .before .if2 .left, sym (n .record-length .ensures), le-ltb _ _ (x .before .if3 .left), sym (x .fields .ensures), sym (c .before .plain-default .ensures), c .if4 .taken)
+    (ne-eqb _ _ (k .before .before .if1 .left), sym (k .map-refusal .ensures), n .before .if2 .left, sym (n .record-length .ensures), le-ltb _ _ (x .before .if3 .left), sym (x .fields .ensures), sym (c .before .default-written .ensures), c .if4 .taken)
 
 by-fields : tie.Need-returns-5
 unfolding readRefusal
@@ -42,7 +42,7 @@ by-fields c =
     let n = x .before .before in
     let k = n .before .before in
     simp
-    (ne-eqb _ _ (k .before .before .if1 .left), sym (k .map-refusal .ensures), n .before .if2 .left, sym (n .record-length .ensures), le-ltb _ _ (x .before .if3 .left), sym (x .fields .ensures), sym (d .plain-default .ensures), c .before .if4 .left)
+    (ne-eqb _ _ (k .before .before .if1 .left), sym (k .map-refusal .ensures), n .before .if2 .left, sym (n .record-length .ensures), le-ltb _ _ (x .before .if3 .left), sym (x .fields .ensures), sym (d .default-written .ensures), c .before .if4 .left)
     (c .refusal .ensures)
 
 pub read-refusal-spec : {M : Type 1} → statement M

@@ -8,14 +8,16 @@ use Rattle.record.specs.Layout.{recordOf}
 use Rattle.record.proofs.Agreement.{written-agrees}
 use Rattle.record.proofs.RoundTrip.{length-written}
 use Rattle.record.proofs.Stores.{record-length, record-stores}
-use Rattle.record.proofs.WritingLaws.{by-fields, page-full, is-written}
+use Rattle.record.proofs.WritingLaws.{refused-by-fields, no-room, is-written}
 use Rattle.record.proofs.write.Statement.{statement}
 use Rattle.record.proofs.write.Tie as tie
 
 refused : tie.Need-returns
 refused c =
     let k = c .before .refusal in
-    (rw (k .ensures) (by-fields _ _ (λ e. c .if1 .taken (k .ensures ∙ e))), refl)
+    let a = c .before .before .before .args in
+    let w = refused-by-fields (a .x) (a .out .now) (k .result) (k .ensures) (c .if1 .taken) in
+    (w .answer, (w .promise, w .bytes))
 
 map-passes : tie.Need-record-length-requires
 map-passes c κs = rw (c .map-byte .ensures) (written-agrees (c .before .before .before .before .args .x) .0)
@@ -28,7 +30,8 @@ full c =
     let a = k .before .before .args in
     let size : n .record-length .result ≡ length (recordOf (a .x)) =
     length-written (a .x) (n .record-length .ensures) (m .map-byte .ensures) in
-    (page-full (a .x) (a .out .now) (sym (k .refusal .ensures) ∙ m .before .if1 .left) (omega arith), refl)
+    let w = no-room (a .x) (a .out .now) (sym (k .refusal .ensures) ∙ m .before .if1 .left) (omega arith) in
+    (w .answer, (w .promise, w .bytes))
 
 head-fits : tie.Need-put-head-requires
 head-fits c κs =
@@ -58,11 +61,10 @@ written c =
     let size : n .record-length .result ≡ length (recordOf (a .x)) =
     length-written (a .x) (n .record-length .ensures) (m .map-byte .ensures) in
     let fits : length (recordOf (a .x)) ≤ length (a .out .now) = omega (arith, h .before .before .if2 .left) in
-    (
-      rw size (is-written (a .x) (a .out .now) (sym (k .refusal .ensures) ∙ m .before .if1 .left) fits),
-      rw size
-      (record-stores (a .x) (m .map-byte .result) (a .out .now) _ _ (m .map-byte .ensures) (h .put-head .ensures) (t .put-tail .ensures) fits),
-    )
+    let w = is-written (a .x) (a .out .now) (sym (k .refusal .ensures) ∙ m .before .if1 .left) fits in
+    let put =
+    record-stores (a .x) (m .map-byte .result) (a .out .now) _ _ (m .map-byte .ensures) (h .put-head .ensures) (t .put-tail .ensures) fits in
+    (rw size (w .answer), (rw size (w .promise), put ∙ w .bytes))
 
 pub write-spec : {M : Type 1} → statement M
 write-spec =

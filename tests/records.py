@@ -1,0 +1,173 @@
+"""Scenarios and records of document 01, as plain functions on whole numbers and bytes.
+
+Written from document 01 alone: 'The scenario', 'Records and doubles' and 'What is turned away'.
+"""
+
+from typing import NamedTuple
+
+
+class Scenario(NamedTuple):
+    """The fields of a scenario, whole numbers in the units named here."""
+
+    model: int
+    magnitude: int  # 0.01
+    distance: int  # 0.01 km
+    velocity: int  # 0.1 m/s
+    mechanism: int  # code
+    period: int  # 0.001 s
+
+
+# ---------------------------------------------------------------------------
+# The scenario
+# ---------------------------------------------------------------------------
+
+IDRISS = 1
+BOORE_ATKINSON = 2
+
+# The limits of each model, both of them included.
+MAGNITUDE = {IDRISS: (450, 790), BOORE_ATKINSON: (500, 800)}
+DISTANCE = {IDRISS: (0, 17500), BOORE_ATKINSON: (0, 19999)}
+VELOCITY = {IDRISS: (4500, 20000), BOORE_ATKINSON: (1800, 13000)}
+
+# The codes of each model.
+MECHANISM = {IDRISS: (0, 1, 2, 3, 4), BOORE_ATKINSON: (0, 1, 2, 3, 9)}
+
+# The tabled periods of each model; "Boore-Atkinson has the same without 40".
+PERIODS = {
+    IDRISS: (10, 20, 30, 40, 50, 75, 100, 150, 200, 250, 300, 400, 500, 750, 1000, 1500, 2000, 3000, 4000, 5000,
+             7500, 10000),
+    BOORE_ATKINSON: (10, 20, 30, 50, 75, 100, 150, 200, 250, 300, 400, 500, 750, 1000, 1500, 2000, 3000, 4000, 5000,
+                     7500, 10000),
+}
+
+# The row of a period that is neither 0 nor tabled: one past the last.
+NO_ROW = 22
+
+
+def beyond(number, limits):
+    """Say whether a number is beyond its limits."""
+    low, high = limits
+    return number < low or number > high
+
+
+def refusal(scenario):
+    """Return the first of 1 to 6 that turns the scenario away, or 0."""
+    model, magnitude, distance, velocity, mechanism, period = scenario
+    # 1 model: neither 1 nor 2
+    if model not in (IDRISS, BOORE_ATKINSON):
+        return 1
+    # 2 magnitude: beyond the model's limits
+    if beyond(magnitude, MAGNITUDE[model]):
+        return 2
+    # 3 distance: likewise
+    if beyond(distance, DISTANCE[model]):
+        return 3
+    # 4 velocity: likewise
+    if beyond(velocity, VELOCITY[model]):
+        return 4
+    # 5 mechanism: not a code of the model
+    if mechanism not in MECHANISM[model]:
+        return 5
+    # 6 period: neither 0 nor tabled for the model
+    if period != 0 and period not in PERIODS[model]:
+        return 6
+    return 0
+
+
+def row(model, period):
+    """Return the row of a period in the coefficient tables of model 1 or 2, counted from 0."""
+    if model == IDRISS:
+        # "Period 0 uses the row 0.01."
+        rows = PERIODS[IDRISS]
+        wanted = 10 if period == 0 else period
+    else:
+        # "Period 0 uses the row PGA."  It is the first.
+        rows = (0,) + PERIODS[BOORE_ATKINSON]
+        wanted = period
+    return rows.index(wanted) if wanted in rows else NO_ROW
+
+
+# ---------------------------------------------------------------------------
+# Records
+# ---------------------------------------------------------------------------
+
+# The fields and their bytes, in the order of bits 0 to 5 of the map byte.
+FIELDS = (('model', 1), ('magnitude', 2), ('distance', 2), ('velocity', 2), ('mechanism', 1), ('period', 2))
+
+# "An absent velocity is 7600, mechanism 9, period 0".
+ABSENT = {'velocity': 7600, 'mechanism': 9, 'period': 0}
+
+
+def stands(map_byte, bit):
+    """Say whether a bit of the map byte stands."""
+    return (map_byte >> bit) % 2 == 1
+
+
+def turned_away(number):
+    """Return a refused read: "a refused read hands back none of the bytes"."""
+    return 'R', number, b''
+
+
+def read(data):
+    """Return ('R', number, b''), or ('E', scenario, length of its record, rest of the bytes)."""
+    # 7 cut short: no map byte
+    if len(data) == 0:
+        return turned_away(7)
+    map_byte = data[0]
+    # 8 spare bit: bit 6 or 7 stands
+    if stands(map_byte, 6) or stands(map_byte, 7):
+        return turned_away(8)
+    # 9 wanting: bit 0, 1 or 2 is clear
+    if not (stands(map_byte, 0) and stands(map_byte, 1) and stands(map_byte, 2)):
+        return turned_away(9)
+    # 10 blank: no bit stands (never reached, as 9 comes first)
+    if map_byte == 0:
+        return turned_away(10)
+    # 7 cut short: fewer bytes than the map calls for
+    called_for = [(name, size) for bit, (name, size) in enumerate(FIELDS) if stands(map_byte, bit)]
+    length = 1 + sum(size for _, size in called_for)
+    if len(data) < length:
+        return turned_away(7)
+    # "Low byte first."
+    written = {}
+    place = 1
+    for name, size in called_for:
+        written[name] = int.from_bytes(data[place:place + size], 'little')
+        place += size
+    # 11 plain default: a field written with its absent number
+    for name, number in ABSENT.items():
+        if name in written and written[name] == number:
+            return turned_away(11)
+    # then 1 to 6
+    scenario = Scenario(**{**ABSENT, **written})
+    number = refusal(scenario)
+    if number != 0:
+        return turned_away(number)
+    return 'E', scenario, length, data[length:]
+
+
+def record(scenario):
+    """Return the bytes of the one record of a scenario that is not turned away."""
+    map_byte = 0
+    fields = b''
+    for bit, (name, size) in enumerate(FIELDS):
+        number = getattr(scenario, name)
+        # "a field with that number is never written"
+        if name in ABSENT and number == ABSENT[name]:
+            continue
+        map_byte += 2 ** bit
+        fields += number.to_bytes(size, 'little')
+    return bytes([map_byte]) + fields
+
+
+def write(scenario, lent):
+    """Return ('R', number, lent bytes unchanged) or ('L', length of the record, lent bytes afterwards)."""
+    # 1 to 6, then 12 page full: lent bytes shorter than the record
+    number = refusal(scenario)
+    if number != 0:
+        return 'R', number, lent
+    front = record(scenario)
+    if len(lent) < len(front):
+        return 'R', 12, lent
+    # "Writing puts the record at the front of the lent bytes and leaves all later bytes unchanged".
+    return 'L', len(front), front + lent[len(front):]
