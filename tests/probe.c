@@ -1,39 +1,142 @@
-/* Answers lines of standard input with the proved functions: "ln A B" with "LOW HIGH", "root X" with "R",
-   and "none" where the arguments are out of the function's domain. */
+/* Answers lines of standard input with the proved functions, one line for each (bytes are hexadecimal pairs, - for none):
+   ln A B                 LOW HIGH, or none where the arguments are out of the function's domain
+   root X                 R, or none
+   refusal SCENARIO       the number of the refusal, 0 for none; a SCENARIO is model magnitude distance velocity
+                          mechanism period
+   row MODEL PERIOD       the row of the period in the model's tables
+   read BYTES             E SCENARIO LENGTH REST, or R NUMBER REST
+   write SCENARIO BYTES   L LENGTH BYTES, or R NUMBER BYTES: what is lent, and as it is afterwards */
 #include <inttypes.h>
 #include <stdio.h>
+#include <string.h>
 
 typedef struct {
     uint64_t low, high;
 } Probed;
 
+typedef struct {
+    uint8_t model;
+    uint16_t magnitude, distance, velocity;
+    uint8_t mechanism;
+    uint16_t period;
+} Fields;
+
+typedef struct {
+    uint8_t number;
+    Fields fields;
+    size_t length, left;
+    uint8_t byte;
+} ProbedReading;
+
+typedef struct {
+    uint8_t number;
+    size_t length;
+} ProbedWriting;
+
 extern Probed probe_ln(uint64_t a, uint64_t b);
 extern uint64_t probe_root(uint64_t x);
+extern uint8_t probe_refusal(Fields f);
+extern size_t probe_row(uint8_t model, uint16_t period);
+extern ProbedReading probe_read(const uint8_t *bytes, size_t count, size_t place);
+extern ProbedWriting probe_write(Fields f, uint8_t *bytes, size_t count);
 
-static const uint64_t none = UINT64_MAX;
+enum { LONGEST = 1024 };
+
+#define FIELDS "%" SCNu8 " %" SCNu16 " %" SCNu16 " %" SCNu16 " %" SCNu8 " %" SCNu16
+#define INTO(f) &(f).model, &(f).magnitude, &(f).distance, &(f).velocity, &(f).mechanism, &(f).period
+
+/* The bytes of text, and how many they are; -1 where it is none. */
+static long bytes_of(const char *text, uint8_t *bytes)
+{
+    long n = 0;
+    int used;
+
+    if (strcmp(text, "-") == 0)
+        return 0;
+    for (; *text; text += 2, n++) {
+        used = 0;
+        if (sscanf(text, "%2" SCNx8 "%n", &bytes[n], &used) != 1 || used != 2)
+            return -1;
+    }
+    return n;
+}
+
+static void print_bytes(const uint8_t *bytes, size_t n)
+{
+    for (size_t i = 0; i < n; i++)
+        printf("%02x", bytes[i]);
+    puts(n == 0 ? "-" : "");
+}
+
+static void answer_read(const uint8_t *bytes, size_t n)
+{
+    ProbedReading r = probe_read(bytes, n, 0);
+    Fields f = r.fields;
+    uint8_t rest[LONGEST];
+
+    if (r.number == 0)
+        printf("E %u %u %u %u %u %u %zu ", f.model, f.magnitude, f.distance, f.velocity, f.mechanism, f.period, r.length);
+    else
+        printf("R %u ", r.number);
+    for (size_t i = 0; i < r.left && i < LONGEST; i++)
+        rest[i] = probe_read(bytes, n, i).byte;
+    print_bytes(rest, r.left);
+}
+
+static void answer_write(Fields f, uint8_t *bytes, size_t n)
+{
+    ProbedWriting w = probe_write(f, bytes, n);
+
+    if (w.number == 0)
+        printf("L %zu ", w.length);
+    else
+        printf("R %u ", w.number);
+    print_bytes(bytes, n);
+}
+
+/* Answers one line; 0 where it is no question. */
+static int answer(const char *line)
+{
+    static char text[2 * LONGEST + 1];
+    static uint8_t bytes[LONGEST];
+    uint64_t a, b;
+    Fields f;
+    long n;
+
+    if (sscanf(line, "ln %" SCNu64 " %" SCNu64, &a, &b) == 2) {
+        Probed p = probe_ln(a, b);
+        if (p.low <= p.high)
+            printf("%" PRIu64 " %" PRIu64 "\n", p.low, p.high);
+        else
+            puts("none");
+    } else if (sscanf(line, "root %" SCNu64, &a) == 1) {
+        uint64_t r = probe_root(a);
+        if (r != UINT64_MAX)
+            printf("%" PRIu64 "\n", r);
+        else
+            puts("none");
+    } else if (sscanf(line, "refusal " FIELDS, INTO(f)) == 6) {
+        printf("%u\n", probe_refusal(f));
+    } else if (sscanf(line, "row %" SCNu64 " %" SCNu64, &a, &b) == 2) {
+        printf("%zu\n", probe_row((uint8_t)a, (uint16_t)b));
+    } else if (sscanf(line, "read %2048s", text) == 1 && (n = bytes_of(text, bytes)) >= 0) {
+        answer_read(bytes, (size_t)n);
+    } else if (sscanf(line, "write " FIELDS " %2048s", INTO(f), text) == 7 && (n = bytes_of(text, bytes)) >= 0) {
+        answer_write(f, bytes, (size_t)n);
+    } else {
+        return 0;
+    }
+    return 1;
+}
 
 int main(void)
 {
-    char line[128];
-    uint64_t a, b;
+    char line[2 * LONGEST + 100];
 
-    while (fgets(line, sizeof line, stdin)) {
-        if (sscanf(line, "ln %" SCNu64 " %" SCNu64, &a, &b) == 2) {
-            Probed p = probe_ln(a, b);
-            if (p.low <= p.high)
-                printf("%" PRIu64 " %" PRIu64 "\n", p.low, p.high);
-            else
-                puts("none");
-        } else if (sscanf(line, "root %" SCNu64, &a) == 1) {
-            uint64_t r = probe_root(a);
-            if (r != none)
-                printf("%" PRIu64 "\n", r);
-            else
-                puts("none");
-        } else {
+    while (fgets(line, sizeof line, stdin))
+        if (!answer(line)) {
             fprintf(stderr, "probe: not a question: %s", line);
             return 1;
         }
-    }
     return 0;
 }

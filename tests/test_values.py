@@ -2,7 +2,7 @@
 """The table of proved values against exact fractions.
 
 Each row of crates/values/specs/Table.antt is read as text and worked out by
-exact.py, which was written from document 01 alone.
+exact.py and records.py, which were written from document 01 alone.
 """
 
 import os
@@ -11,6 +11,7 @@ import sys
 from fractions import Fraction
 
 from exact import Pair, ln_pair, root_pair
+from records import read
 
 HERE = os.path.dirname(os.path.abspath(__file__))
 TABLE = os.path.join(HERE, '..', 'crates', 'values', 'specs', 'Table.antt')
@@ -19,11 +20,14 @@ FRACTION = r'\(pos ([\d_]+) over ([\d_]+)\)'
 ENDS = FRACTION + ' ' + FRACTION
 LN = re.compile(r'pairAt ([\d_]+) \(ln ([\d_]+) ([\d_]+)\) ' + ENDS)
 ROOT = re.compile(r'pairAt ([\d_]+) \(root ([\d_]+)\) ' + ENDS)
+NUMBERS = r'\(((?:\w+ ∷ )+)\[\]\)'
+READS = re.compile('reads ' + NUMBERS + ' ' + NUMBERS)
 EVERY = re.compile(r'lnAtEvery ([\d_]+) ([\d_]+) ' + ENDS)
 
 # Document 01, 'Values to try', marked P: the subjects that have to be there.
 WANTED = ('pairAt 1 (ln 3 1)', 'pairAt 2 (ln 2 1)', 'lnAtEvery 7 7',
-          'pairAt 1 (root 18_225)')
+          'pairAt 1 (root 18_225)',
+          'reads (0x37 ∷ 0x01 ∷ 0xBC ∷ 0x02 ∷ 0xE8 ∷ 0x03 ∷ 0x02 ∷ 0x4B ∷ 0x00 ∷ [])')
 
 
 def rows(path):
@@ -32,7 +36,8 @@ def rows(path):
         text = file.read()
     body = re.search(r'^values =\n(.*?)^    \[\]$', text, re.M | re.S).group(1)
     body = re.sub(r'^\s*--.*\n', '', body, flags=re.M)
-    return [' '.join(row.split()) for row in body.split('∷') if row.strip()]
+    table = [' '.join(row.split()) for row in re.split(r'∷(?![^(]*\))', body)]
+    return [row for row in table if row]
 
 
 def numbers(match):
@@ -63,6 +68,13 @@ def row_holds(row):
         values = numbers(match)
         a, b = values[:2]
         return all(ln_pair(a, b, n) == stated_ends(values) for n in range(1, 30))
+    match = READS.fullmatch(row)
+    if match:
+        record, fields = (
+            [int(number, 0) for number in group.split(' ∷ ')[:-1]]
+            for group in match.groups())
+        kind, scenario, length, _ = read(bytes(record))
+        return kind == 'E' and [*scenario, length] == fields
     raise ValueError(f'a row of a kind that this test does not know: {row}')
 
 

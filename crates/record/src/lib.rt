@@ -72,7 +72,9 @@ fn word(s: &[u8], at: usize) -> u16
     requires { ⌜ at + 1 < length (now s) ⌝ }
     ensures { λ r. ⌜ r ≡ numberOf (take 2 (drop at (now (s .entry)))) ⌝ }
 {
-    (s[at] as u16) + 256 * (s[at + 1] as u16)
+    let low = s[at];
+    let high = s[at + 1];
+    (low as u16) + 256 * (high as u16)
 }
 
 fn byte_or(s: &[u8], stands: bool, at: usize, absent: u8) -> u8
@@ -178,7 +180,9 @@ pub fn read(s: &[u8]) -> Reading
     if k != 0 {
         return Reading::Refused(k);
     }
-    Reading::Read(fields(s), record_length(s[0]))
+    let x = fields(s);
+    let n = record_length(s[0]);
+    Reading::Read(x, n)
 }
 
 // The part of s after the record that is read at its front.

@@ -1,3 +1,4 @@
 pub mod CheckLaws
 pub mod ListLaws
+pub mod RefusalLaws
 pub mod RowLaws

@@ -8,14 +8,15 @@ use Rattle.scenario.specs.Lists.{among, placeIn}
 use Rattle.scenario.specs.Refusal.{idriss, booreAtkinson, idrissRow, booreAtkinsonRow}
 use Rattle.scenario.proofs.ListLaws.{past-the-end}
 
-pub idriss-untabled : (T : ℕ) → eqb (idrissRow T) 22 ≡ not (among (0 ∷ idriss .periods) T)
+pub idriss-untabled : (T : ℕ) {row : ℕ} → row ≡ idrissRow T → eqb row 22 ≡ not (among (0 ∷ idriss .periods) T)
 unfolding idrissRow
-idriss-untabled T = go (eqb T 0)
+idriss-untabled T e = rw e (go (eqb T 0))
   where
     go : (b : Bool) → eqb (placeIn (idriss .periods) (cond b 10 T)) 22 ≡ not (b || among (idriss .periods) T)
     go true = refl
     go false = past-the-end (idriss .periods) T
 
-pub boore-atkinson-untabled : (T : ℕ) → eqb (booreAtkinsonRow T) 22 ≡ not (among (0 ∷ booreAtkinson .periods) T)
+pub boore-atkinson-untabled : (T : ℕ) {row : ℕ} → row ≡ booreAtkinsonRow T →
+    eqb row 22 ≡ not (among (0 ∷ booreAtkinson .periods) T)
 unfolding booreAtkinsonRow
-boore-atkinson-untabled T = past-the-end (0 ∷ booreAtkinson .periods) T
+boore-atkinson-untabled T e = rw e (past-the-end (0 ∷ booreAtkinson .periods) T)

@@ -13,18 +13,21 @@ use Rattle.exact.specs.Root.{greatest, wholeRoot, rootValues, rootPair}
 use Rattle.exact.specs.Formula.{Formula, stated, ln, root, _⊕_, _⊖_, _⊗_, _⊘_, ifUpTo, eval, Defined}
 use Rattle.exact.proofs.FractionLaws.{≤q-antisym}
 use Rattle.exact.proofs.Tests.{and-left, and-right, every, every-at}
-use Rattle.values.specs.Table.{Check, pairAt, lnAtEvery, fraction, fields, HasEnds, Holds, AllHold, values}
+use Rattle.scenario.specs.Refusal.{refusalBy, refusalOf}
+use Rattle.record.specs.Layout.{sizeOf, numbersOf, defaultWritten}
+use Rattle.record.specs.Outcome.{readingValues, scenarioIn, lengthBy, mapRefusal, readRefusal, readOf}
+use Rattle.values.specs.Table.{Check, pairAt, lnAtEvery, fraction, reads, HasEnds, Holds, AllHold, values}
 
 -- ---- the test of a row
 
 unfoldable same : Fraction → Fraction → Bool
 same x y = leQ x y && leQ y x
 
-unfoldable sameFields : List ℕ → List ℕ → Bool
-sameFields [] [] = true
-sameFields [] (y ∷ ys) = false
-sameFields (x ∷ xs) [] = false
-sameFields (x ∷ xs) (y ∷ ys) = eqb x y && sameFields xs ys
+unfoldable sameList : List ℕ → List ℕ → Bool
+sameList [] [] = true
+sameList [] (y ∷ ys) = false
+sameList (x ∷ xs) [] = false
+sameList (x ∷ xs) (y ∷ ys) = eqb x y && sameList xs ys
 
 -- defined at n, in both branches
 unfoldable sound : ℕ → Formula → Bool
@@ -41,7 +44,7 @@ unfoldable passes : Check → Bool
 passes (pairAt n e x y) = (leb 1 n && sound n e) && (same (eval n e .low) x && same (eval n e .high) y)
 passes (lnAtEvery a b x y) = (leb 1 a && eqb a b) && (same zeroQ x && same zeroQ y)
 passes (fraction x y) = same x y
-passes (fields xs ys) = sameFields xs ys
+passes (reads s xs) = sameList (readingValues (readOf s)) xs
 
 -- ---- and what it shows
 
@@ -54,14 +57,14 @@ same-is {x} {y} t =
     let u = both (leQ x y) (leQ y x) t in
     ≤q-antisym (record { le = u .0 }) (record { le = u .1 })
 
-same-fields : (xs ys : List ℕ) → T (sameFields xs ys) → xs ≡ ys
-unfolding sameFields
-same-fields [] [] t = refl
-same-fields [] (y ∷ ys) t = absurd t
-same-fields (x ∷ xs) [] t = absurd t
-same-fields (x ∷ xs) (y ∷ ys) t =
-    let u = both (eqb x y) (sameFields xs ys) t in
-    rw (eqb→eq x y (u .0), same-fields xs ys (u .1))
+same-list : (xs ys : List ℕ) → T (sameList xs ys) → xs ≡ ys
+unfolding sameList
+same-list [] [] t = refl
+same-list [] (y ∷ ys) t = absurd t
+same-list (x ∷ xs) [] t = absurd t
+same-list (x ∷ xs) (y ∷ ys) t =
+    let u = both (eqb x y) (sameList xs ys) t in
+    rw (eqb→eq x y (u .0), same-list xs ys (u .1))
 
 defined : (n : ℕ) (e : Formula) → T (sound n e) → Defined n e
 unfolding sound Defined
@@ -105,13 +108,14 @@ holds (lnAtEvery a b x y) t =
     let s : 1 ≤ a = leb→le 1 a (v .0) in
     λ n h. rw (← (eqb→eq a b (v .1))) ((s, s), ln-same a n (same-is (w .0)) (same-is (w .1)))
 holds (fraction x y) t = same-is t
-holds (fields xs ys) t = same-fields xs ys t
+holds (reads s xs) t = same-list (readingValues (readOf s)) xs t
 
 -- ---- all of them
 
 all-pass : T (every (λ k c. passes c) 0 values)
-unfolding passes sound same sameFields eval lnPair lowerSum upperSum harmonic rootPair rootValues wholeRoot greatest leQ
-    zeroQ negQ _+q_ _over_
+unfolding passes sound same sameList eval lnPair lowerSum upperSum harmonic rootPair rootValues wholeRoot greatest leQ
+    zeroQ negQ _+q_ _over_ readOf readRefusal mapRefusal scenarioIn lengthBy numbersOf sizeOf defaultWritten refusalOf
+    refusalBy
 all-pass = tt
 
 pub all-hold : AllHold

@@ -6,6 +6,7 @@ use lib.IntN.{pos}
 use lib.ListN.{length, getD}
 use Rattle.exact.specs.Fraction.{Fraction, _over_, zeroQ, _≈q_}
 use Rattle.exact.specs.Pair.{Pair}
+use Rattle.record.specs.Outcome.{readingValues, readOf}
 use Rattle.exact.specs.Formula.{Formula, ln, root, eval, Defined}
 
 -- a row
@@ -16,8 +17,8 @@ pub data Check : Type 0 where
   lnAtEvery : ℕ → ℕ → Fraction → Fraction → Check
   -- fractions: what is worked out has this value
   fraction : Fraction → Fraction → Check
-  -- records: the fields that are read, in their order, have these values
-  fields : List ℕ → List ℕ → Check
+  -- records: bytes are read as these fields, in the record's order, and this length
+  reads : List ℕ → List ℕ → Check
 
 -- P has the ends x and y
 pub record HasEnds (P : Pair) (x y : Fraction) : Type 0 where
@@ -29,7 +30,7 @@ unfoldable pub Holds : Check → Type 0
 Holds (pairAt n e x y) = (1 ≤ n) × Defined n e × HasEnds (eval n e) x y
 Holds (lnAtEvery a b x y) = (n : ℕ) → 1 ≤ n → Defined n (ln a b) × HasEnds (eval n (ln a b)) x y
 Holds (fraction x y) = x ≈q y
-Holds (fields xs ys) = xs ≡ ys
+Holds (reads s xs) = readingValues (readOf s) ≡ xs
 
 -- the rows, in document 01's order
 abbrev pub values : List Check
@@ -40,6 +41,9 @@ values =
     lnAtEvery 7 7 (pos 0 over 1) (pos 0 over 1) ∷
     -- "the root of 18225 at n = 1 has 135 and 136"
     pairAt 1 (root 18_225) (pos 135 over 1) (pos 136 over 1) ∷
+    -- "bytes 37 01 BC 02 E8 03 02 4B 00 are Idriss, M 7.00, 10 km, 760 m/s, code 2, 0.075 s"
+    reads (0x37 ∷ 0x01 ∷ 0xBC ∷ 0x02 ∷ 0xE8 ∷ 0x03 ∷ 0x02 ∷ 0x4B ∷ 0x00 ∷ [])
+    (1 ∷ 700 ∷ 1_000 ∷ 7_600 ∷ 2 ∷ 75 ∷ 9 ∷ []) ∷
     []
 
 -- the shared statement: every row holds

@@ -1,11 +1,22 @@
 -- `word` meets its contract.
 use mathlib.Core.Path.{sym}
-use Prim.Native.Nat.{_+_}
+use Prim.Native.Nat.{_+_, _<_}
 use native.Mathlib.Omega.{arith}
 use borrow.Author.Needs.{needs}
+use lib.ListN.{getD}
 use Rattle.record.proofs.FieldLaws.{word-at}
 use Rattle.record.proofs.word.Statement.{statement}
 use Rattle.record.proofs.word.Tie as tie
+use Rattle.record.proofs.word.Reads as reads
+use Rattle.record.proofs.word.Lts as lts
+
+-- both are bytes
+module _ (c : lts.After-shared-slice-known2 reads.Pre reads.Post) where
+  low : getD (c .before .before .args .s .now) (c .before .before .args .at) 0 < 256
+  low = omega (arith, c .shared-slice-known2 .given (c .before .before .args .at))
+
+  high : getD (c .before .before .args .s .now) (c .before .before .args .at + 1) 0 < 256
+  high = omega (arith, c .shared-slice-known2 .given (c .before .before .args .at + 1))
 
 returns : tie.Need-returns
 returns c = sym (word-at (c .before .before .args .s .now) (c .before .before .args .at))
@@ -15,10 +26,10 @@ word-spec =
     tie.close
     (tie.spec
     (λ c. search needs)
-    (λ c. omega (arith, c .shared-slice-known .given (c .before .args .at)))
     (λ c. search needs)
     (λ c. search needs)
-    (λ c. omega (arith, c .shared-slice-known2 .given (c .before .before .args .at + 1)))
-    (λ c. omega (arith, c .shared-slice-known2 .given (c .before .before .args .at + 1)))
-    (λ c. let a = c .before .before .args .at in omega (arith, c .shared-slice-known2 .given a, c .shared-slice-known2 .given (a + 1)))
+    (λ c. omega (arith, low c, high c))
+    (λ c. omega (arith, low c, high c))
+    (λ c. omega (arith, low c, high c))
+    (λ c. omega (arith, low c, high c))
     returns)

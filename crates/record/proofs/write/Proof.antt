@@ -4,7 +4,9 @@ use Prim.Native.Nat.{ℕ, _≤_}
 use native.Mathlib.Omega.{arith}
 use borrow.Author.Needs.{needs}
 use lib.ListN.{length}
+use Rattle.record.specs.declared.Written.the-variants as W
 use Rattle.record.specs.Layout.{recordOf}
+use Rattle.record.specs.Outcome.{writeOf, WritePromise}
 use Rattle.record.proofs.Agreement.{written-agrees}
 use Rattle.record.proofs.RoundTrip.{length-written}
 use Rattle.record.proofs.Stores.{record-length, record-stores}
@@ -64,7 +66,9 @@ written c =
     let w = is-written (a .x) (a .out .now) (sym (k .refusal .ensures) ∙ m .before .if1 .left) fits in
     let put =
     record-stores (a .x) (m .map-byte .result) (a .out .now) _ _ (m .map-byte .ensures) (h .put-head .ensures) (t .put-tail .ensures) fits in
-    (rw size (w .answer), (rw size (w .promise), put ∙ w .bytes))
+    let answer : W.Length (n .record-length .result) ≡ writeOf (a .x) (a .out .now) = rw size (w .answer) in
+    let promise : WritePromise (a .x) (a .out .now) (W.Length (n .record-length .result)) = rw size (w .promise) in
+    (answer, (promise, put ∙ w .bytes))
 
 pub write-spec : {M : Type 1} → statement M
 write-spec =

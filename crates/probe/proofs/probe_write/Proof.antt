@@ -1,0 +1,35 @@
+-- `probe_write` meets its contract.
+use mathlib.Core.Path.{_≡_, refl}
+use borrow.Author.Needs.{needs}
+use Rattle.record.specs.declared.Written.the-variants as W
+use Rattle.record.specs.Outcome.{writeOf}
+use Rattle.probe.specs.Probe.{scenarioFrom, probedWriting}
+use Rattle.probe.proofs.probe_write.Statement.{statement}
+use Rattle.probe.proofs.probe_write.Tie as tie
+
+written : tie.Need-returns
+unfolding probedWriting
+written c =
+    let a = c .before .before .before .before .before .before .before .before .before .args in
+    let e : writeOf (scenarioFrom (a .f)) (a .out .now) ≡ W.Length (c .before .length .given .0 .0) = cc in
+    (rw e refl, cc)
+
+refused : tie.Need-returns-2
+unfolding probedWriting
+refused c =
+    let a = c .before .before .before .before .before .before .before .before .before .args in
+    let e : writeOf (scenarioFrom (a .f)) (a .out .now) ≡ W.Refused (c .before .number .given .0 .0) = cc in
+    (rw e refl, cc)
+
+pub probe-write-spec : {M : Type 1} → statement M
+probe-write-spec =
+    tie.close
+    (tie.spec
+    (λ c κs. search needs)
+    (λ c κs. search needs)
+    (λ c. search needs)
+    (λ c. search needs)
+    (λ c. search needs)
+    written
+    (λ c. search needs)
+    refused)
