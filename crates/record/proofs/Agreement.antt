@@ -1,11 +1,9 @@
--- A map byte and a scenario that agree: a field's bit stands exactly where its number is not the absent one. Of a record
--- that is written they do, and of one that is read.
-use mathlib.Core.Path.{_≡_, refl, sym, ap, _∙_}
+-- A map byte and a scenario that agree: a field's bit stands exactly where its number is not the absent one. They do in
+-- a record that is written, and in one that is read.
+use mathlib.Core.Path.{_≡_, refl, sym, ap}
 use mathlib.Core.Bool.{Bool, true, false, not, cond, _&&_, _||_}
-use mathlib.Core.List.{List, [], _∷_, _++_}
-use mathlib.Core.Option.{none, some}
+use mathlib.Core.List.{List, [], _∷_}
 use Prim.Native.Nat.{ℕ, _+_, _^_}
-use native.Mathlib.Omega.{arith}
 use lib.Dec.{eqb}
 use lib.ListN.{length, length-append}
 use Rattle.scenario.specs.declared.Scenario.{Scenario}

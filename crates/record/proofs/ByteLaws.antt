@@ -37,4 +37,5 @@ bytes-back zero s h l = refl
 bytes-back (suc w) [] h l = absurd (not-suc-le-zero l)
 bytes-back (suc zero) (a ∷ s) h l = ap (λ (x : ℕ). x ∷ []) (omega arith)
 bytes-back (suc (suc w)) (a ∷ s) h l =
-    rw (low a (numberOf (take (suc w) s)) (h 0), high a (numberOf (take (suc w) s)) (h 0), bytes-back (suc w) s (λ i. h (suc i)) (le-of-suc-le-suc l))
+    let n = numberOf (take (suc w) s) in
+    rw (low a n (h 0), high a n (h 0), bytes-back (suc w) s (λ i. h (suc i)) (le-of-suc-le-suc l))

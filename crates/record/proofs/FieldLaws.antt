@@ -7,7 +7,6 @@ use native.Mathlib.Nat.{add-zero}
 use native.Mathlib.Omega.{arith}
 use lib.ListN.{getD, take, drop}
 use lib.Seq.{drop-drop, getD-drop}
-use Rattle.scenario.specs.declared.Scenario.{Scenario}
 use Rattle.record.specs.Layout.{Field, layout, absentNumber, stands, numberOf, sizeOf, numbersOf}
 use Rattle.record.specs.Outcome.{mapIn, scenarioIn, lengthBy, mapRefusal}
 use Rattle.record.proofs.MapLaws.{passed}
@@ -40,7 +39,8 @@ numbers-at : (fs : List Field) (m at : ℕ) (s : List ℕ) → numbersOf fs m (d
 unfolding numbersOf
 numbers-at [] m at s = refl
 numbers-at (f ∷ fs) m at s =
-    rw (drop-drop (cond (stands (f .bit) m) (f .width) 0) at s, numbers-at fs m (at + cond (stands (f .bit) m) (f .width) 0) s)
+    let n = cond (stands (f .bit) m) (f .width) 0 in
+    rw (drop-drop n at s, numbers-at fs m (at + n) s)
 
 pub scenario-is : (s : List ℕ) → mapRefusal (mapIn s) ≡ 0 →
     scenarioIn s ≡

@@ -4,23 +4,21 @@ use mathlib.Core.Path.{_≡_, refl, sym, ap, _∙_}
 use mathlib.Core.List.{List, _++_}
 use Prim.Native.Nat.{ℕ, zero, suc, _≤_}
 use native.Mathlib.Omega.{arith}
-use borrow.Author.Tests.{le-ltb, ltb-false}
-use lib.Dec.{ltb}
-use lib.ListN.{length, take, drop, length-append}
+use lib.ListN.{length, take, drop}
 use lib.Seq.{length-take-le}
 use Rattle.scenario.specs.declared.Scenario.{Scenario}
-use Rattle.scenario.specs.Checks.{_otherwise_, unlessRefused}
+use Rattle.scenario.specs.Checks.{unlessRefused}
 use Rattle.scenario.specs.Refusal.{refusalOf}
-use Rattle.scenario.proofs.CheckLaws.{none-of, not-when}
-use Rattle.record.specs.declared.Reading.{Reading}
+use Rattle.scenario.proofs.CheckLaws.{none-of}
 use Rattle.record.specs.declared.Reading.the-variants as R
-use Rattle.record.specs.declared.Written.{Written}
 use Rattle.record.specs.declared.Written.the-variants as W
 use Rattle.record.specs.Layout.{recordOf}
-use Rattle.record.specs.Outcome.{mapIn, scenarioIn, lengthBy, readRefusal, readOf, restOf, writeRefusal, writeOf, lentAfter}
+use Rattle.record.specs.Outcome.{mapIn, scenarioIn, lengthBy, readRefusal, readOf, restOf}
+use Rattle.record.specs.Outcome.{writeRefusal, writeOf, lentAfter}
 use Rattle.record.proofs.ByteLaws.{Bytes}
-use Rattle.record.proofs.ReadingLaws.{Accepted, accepted}
-use Rattle.record.proofs.RoundTrip.{read-written, rest-written, record-read}
+use Rattle.record.proofs.ReadingLaws.{accepted}
+use Rattle.record.proofs.ReadBack.{read-written, rest-written}
+use Rattle.record.proofs.WriteBack.{record-read}
 use Rattle.record.proofs.WritingLaws.{is-written}
 
 -- ---- what is written is read back as the scenario, and the later bytes are the rest

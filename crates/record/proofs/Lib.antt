@@ -1,9 +1,10 @@
-pub mod MapLaws
-pub mod FieldLaws
-pub mod ReadingLaws
-pub mod ByteLaws
 pub mod Agreement
-pub mod RoundTrip
+pub mod ByteLaws
+pub mod FieldLaws
 pub mod Laws
+pub mod MapLaws
+pub mod ReadBack
+pub mod ReadingLaws
 pub mod Stores
+pub mod WriteBack
 pub mod WritingLaws

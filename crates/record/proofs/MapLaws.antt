@@ -1,8 +1,8 @@
 -- Facts about map bytes. What holds of every byte is one test that antt computes over all 256.
-use mathlib.Core.Path.{_≡_, refl, sym, _∙_}
+use mathlib.Core.Path.{_≡_, refl, _∙_}
 use mathlib.Core.Bool.{Bool, true, false, not, cond, _&&_, _||_}
 use mathlib.Core.List.{List, [], _∷_}
-use Prim.Native.Nat.{ℕ, zero, suc, _+_, _%_, _^_, _≤_, _<_}
+use Prim.Native.Nat.{ℕ, zero, suc, _+_, _%_, _^_, _<_}
 use native.Mathlib.Nat.{not-suc-le-zero}
 use native.Mathlib.Decide.{decLt}
 use native.Mathlib.Omega.{arith}
@@ -10,8 +10,8 @@ use borrow.Author.Tests.{leb-false, lt-leb}
 use lib.Dec.{T, eqb, leb, eqb→eq}
 use Rattle.scenario.specs.Checks.{_when_, _otherwise_}
 use Rattle.scenario.proofs.CheckLaws.{none-of, not-when}
-use Rattle.record.specs.Layout.{Field, layout, stands, sizeOf}
-use Rattle.record.specs.Outcome.{mapRefusal, lengthBy}
+use Rattle.record.specs.Layout.{Field, layout, stands}
+use Rattle.record.specs.Outcome.{mapRefusal}
 
 -- ---- a test of all numbers below n
 

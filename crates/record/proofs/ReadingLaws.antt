@@ -7,12 +7,13 @@ use native.Mathlib.Omega.{arith}
 use borrow.Author.Tests.{eqb-false, ltb-false}
 use lib.Dec.{eqb, ltb}
 use lib.ListN.{length, drop}
-use Rattle.scenario.specs.Checks.{_when_, _otherwise_, unlessRefused}
+use Rattle.scenario.specs.Checks.{_when_, unlessRefused}
 use Rattle.scenario.specs.Refusal.{refusalOf}
 use Rattle.scenario.proofs.CheckLaws.{none-of, not-when, is-refused}
 use Rattle.record.specs.declared.Reading.the-variants.{Read, Refused}
 use Rattle.record.specs.Layout.{layout, defaultWritten}
-use Rattle.record.specs.Outcome.{mapIn, scenarioIn, lengthBy, mapRefusal, readRefusal, readOf, restOf, ReadPromise}
+use Rattle.record.specs.Outcome.{mapIn, scenarioIn, lengthBy, mapRefusal}
+use Rattle.record.specs.Outcome.{readRefusal, readOf, restOf, ReadPromise}
 
 -- s passes every check of reading
 pub record Accepted (s : List ℕ) : Type 0 where

@@ -1,5 +1,5 @@
 -- Runs of stores into lent bytes.
-use mathlib.Core.Path.{_≡_, refl, sym, ap, _∙_}
+use mathlib.Core.Path.{_≡_, sym, ap, _∙_}
 use mathlib.Core.List.{List, [], _∷_, _++_, append-nil}
 use mathlib.Core.Option.{some}
 use Prim.Native.Nat.{ℕ, suc, _+_, _≤_}
@@ -31,16 +31,17 @@ pub tail-length : (x : Scenario) →
 unfolding partsOf
 tail-length x = simp (length-append, append-nil)
 
-pub tail-stores : (x : Scenario) {l l1 l2 l3 : List ℕ} {a b c : ℕ} → Put 6 (partOf 2 (some 7_600) (x .velocity)) l a l1 →
-    Put a (partOf 1 (some 9) (x .mechanism)) l1 b l2 → Put b (partOf 2 (some 0) (x .period)) l2 c l3 →
-    l3 ≡ sets l 6 (partsOf (drop 3 layout) x)
+pub tail-stores : (x : Scenario) {l l1 l2 l3 : List ℕ} {a b c : ℕ} →
+    Put 6 (partOf 2 (some 7_600) (x .velocity)) l a l1 → Put a (partOf 1 (some 9) (x .mechanism)) l1 b l2 →
+    Put b (partOf 2 (some 0) (x .period)) l2 c l3 → l3 ≡ sets l 6 (partsOf (drop 3 layout) x)
 unfolding partsOf
 tail-stores x {l} {l1} {l2} {l3} {a} {b} {c} p q r =
     go (partOf 2 (some 7_600) (x .velocity)) (partOf 1 (some 9) (x .mechanism)) (partOf 2 (some 0) (x .period)) p q r
   where
     go : (u v w : List ℕ) → Put 6 u l a l1 → Put a v l1 b l2 → Put b w l2 c l3 → l3 ≡ sets l 6 (u ++ (v ++ (w ++ [])))
     go u v w p q r =
-        rw (r .bytes, q .bytes, q .place, sets-append v w l1 a, p .bytes, p .place, sets-append u (v ++ w) l 6, append-nil w)
+        rw (r .bytes, q .bytes, q .place, sets-append v w l1 a, p .bytes, p .place)
+        (rw (sets-append u (v ++ w) l 6, append-nil w))
 
 -- ---- the whole record
 

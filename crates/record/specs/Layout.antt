@@ -1,6 +1,6 @@
 -- The record of a scenario: a map byte, then the fields whose bits stand.
 -- Document 01, 'Records and doubles'.
-use mathlib.Core.Bool.{Bool, true, false, cond, _&&_, _||_}
+use mathlib.Core.Bool.{Bool, false, cond, _&&_, _||_}
 use mathlib.Core.List.{List, [], _∷_, _++_}
 use mathlib.Core.Option.{Option, none, some}
 use Prim.Native.Nat.{ℕ, zero, suc, _+_, _*_, _/_, _%_, _^_}
@@ -8,8 +8,8 @@ use lib.Dec.{eqb}
 use lib.ListN.{getD, take, drop}
 use Rattle.scenario.specs.declared.Scenario.{Scenario}
 
--- a field of the record: its bit in the map, its bytes, what of a scenario it holds and, if it may be absent, the number
--- that it then has
+-- a field of the record: its bit in the map, how many bytes it has, which number of a scenario it holds and, if it may
+-- be absent, the number that it then has
 pub record Field : Type 0 where
   pub bit : ℕ
   pub width : ℕ

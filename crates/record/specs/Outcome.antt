@@ -13,7 +13,7 @@ use Rattle.record.specs.declared.Reading.{Reading}
 use Rattle.record.specs.declared.Reading.the-variants as R
 use Rattle.record.specs.declared.Written.{Written}
 use Rattle.record.specs.declared.Written.the-variants as W
-use Rattle.record.specs.Layout.{Field, layout, scenarioOf, stands, sizeOf, numbersOf, defaultWritten, recordOf}
+use Rattle.record.specs.Layout.{layout, scenarioOf, stands, sizeOf, numbersOf, defaultWritten, recordOf}
 
 -- ---- reading
 

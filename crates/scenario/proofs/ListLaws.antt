@@ -4,7 +4,7 @@ use mathlib.Core.Bool.{Bool, true, false, not, _||_, cond}
 use mathlib.Core.List.{List, [], _∷_}
 use Prim.Native.Nat.{ℕ, suc}
 use borrow.Author.Tests.{ne-eqb}
-use lib.Dec.{eqb, leb, eqb·suc-suc, eqb·zero-suc}
+use lib.Dec.{eqb, eqb·suc-suc, eqb·zero-suc}
 use lib.ListN.{length}
 use Rattle.scenario.specs.Lists.{among, placeIn}
 

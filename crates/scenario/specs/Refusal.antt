@@ -1,6 +1,6 @@
 -- Which scenarios each model takes, the number of the first check that a scenario fails, and the row of a period.
 -- Document 01, 'The scenario' and 'What is turned away'.
-use mathlib.Core.Bool.{Bool, not, cond, _&&_}
+use mathlib.Core.Bool.{not, cond}
 use mathlib.Core.List.{List, [], _∷_}
 use Prim.Native.Nat.{ℕ}
 use lib.Dec.{eqb}

@@ -8,4 +8,7 @@ use Rattle.probe.proofs.byte_at.Tie as tie
 pub byte-at-spec : {M : Type 1} → statement M
 byte-at-spec =
     tie.close
-    (tie.spec (λ c. search needs) (λ c. search needs) (λ c. sym (List·getD-eq-default (c .before .args .s .now) 0 (c .if1 .left))))
+    (tie.spec
+    (λ c. search needs)
+    (λ c. search needs)
+    (λ c. sym (List·getD-eq-default (c .before .args .s .now) 0 (c .if1 .left))))

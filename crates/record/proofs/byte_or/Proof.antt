@@ -1,6 +1,5 @@
 -- `byte_or` meets its contract.
 use native.Mathlib.Omega.{arith}
-use borrow.Author.Needs.{needs}
 use Rattle.record.proofs.byte_or.Statement.{statement}
 use Rattle.record.proofs.byte_or.Tie as tie
 

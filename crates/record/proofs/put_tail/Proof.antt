@@ -19,14 +19,17 @@ period-fits c κs =
     let k = c .before .before .before in
     let v = k .before .before .before .before in
     let a = v .before .before .before in
-    omega (arith, tail-length (a .args .x), k .put-byte .ensures .place, k .put-byte .kept .0, v .put-word .ensures .place, v .put-word .kept .0)
+    let first = v .put-word .ensures .place in
+    let second = k .put-byte .ensures .place in
+    omega (arith, tail-length (a .args .x), first, second, v .put-word .kept .0, k .put-byte .kept .0)
 
 returns : tie.Need-returns
 returns c =
     let p = c .before .before in
     let k = p .before .before .before .before in
     let v = k .before .before .before .before in
-    tail-stores (v .before .before .before .args .x) (v .put-word .ensures) (k .put-byte .ensures) (p .put-word2 .ensures)
+    let x = v .before .before .before .args .x in
+    tail-stores x (v .put-word .ensures) (k .put-byte .ensures) (p .put-word2 .ensures)
 
 pub put-tail-spec : {M : Type 1} → statement M
 put-tail-spec = tie.close (tie.spec velocity-fits mechanism-fits period-fits (λ c. search needs) returns)

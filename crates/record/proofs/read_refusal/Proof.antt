@@ -17,22 +17,26 @@ map-refused c =
     let k = c .before .map-refusal in
     simp (ne-eqb _ _ (c .before .before .before .if1 .left), sym (k .ensures)) (is-first _ _ (c .if2 .taken))
 
-cut-short : tie.Need-returns-3
+too-short : tie.Need-returns-3
 unfolding readRefusal
-cut-short c =
+too-short c =
     let n = c .before in
     let k = n .before .before in
-    simp
-    (ne-eqb _ _ (k .before .before .if1 .left), sym (k .map-refusal .ensures), n .before .if2 .left, sym (n .record-length .ensures), lt-ltb _ _ (c .if3 .taken))
+    let some = ne-eqb _ _ (k .before .before .if1 .left) in
+    let passes = sym (k .map-refusal .ensures) ∙ n .before .if2 .left in
+    simp (some, passes, sym (n .record-length .ensures), lt-ltb _ _ (c .if3 .taken))
 
-plain : tie.Need-returns-4
+written-out : tie.Need-returns-4
 unfolding readRefusal
-plain c =
+written-out c =
     let x = c .before .before in
     let n = x .before .before in
     let k = n .before .before in
-    simp
-    (ne-eqb _ _ (k .before .before .if1 .left), sym (k .map-refusal .ensures), n .before .if2 .left, sym (n .record-length .ensures), le-ltb _ _ (x .before .if3 .left), sym (x .fields .ensures), sym (c .before .default-written .ensures), c .if4 .taken)
+    let some = ne-eqb _ _ (k .before .before .if1 .left) in
+    let passes = sym (k .map-refusal .ensures) ∙ n .before .if2 .left in
+    let room = le-ltb _ _ (x .before .if3 .left) in
+    let apart = sym (c .before .default-written .ensures) ∙ c .if4 .taken in
+    simp (some, passes, sym (n .record-length .ensures), room, sym (x .fields .ensures), apart)
 
 by-fields : tie.Need-returns-5
 unfolding readRefusal
@@ -41,9 +45,11 @@ by-fields c =
     let x = d .before in
     let n = x .before .before in
     let k = n .before .before in
-    simp
-    (ne-eqb _ _ (k .before .before .if1 .left), sym (k .map-refusal .ensures), n .before .if2 .left, sym (n .record-length .ensures), le-ltb _ _ (x .before .if3 .left), sym (x .fields .ensures), sym (d .default-written .ensures), c .before .if4 .left)
-    (c .refusal .ensures)
+    let some = ne-eqb _ _ (k .before .before .if1 .left) in
+    let passes = sym (k .map-refusal .ensures) ∙ n .before .if2 .left in
+    let room = le-ltb _ _ (x .before .if3 .left) in
+    let apart = sym (d .default-written .ensures) ∙ c .before .if4 .left in
+    simp (some, passes, sym (n .record-length .ensures), room, sym (x .fields .ensures), apart) (c .refusal .ensures)
 
 pub read-refusal-spec : {M : Type 1} → statement M
 read-refusal-spec =
@@ -54,9 +60,9 @@ read-refusal-spec =
     (λ c κs. search needs)
     map-refused
     (λ c κs. search needs)
-    cut-short
+    too-short
     (λ c κs. search needs)
     (λ c κs. search needs)
-    plain
+    written-out
     (λ c κs. search needs)
     by-fields)

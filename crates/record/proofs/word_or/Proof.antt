@@ -1,6 +1,5 @@
 -- `word_or` meets its contract.
 use native.Mathlib.Omega.{arith}
-use borrow.Author.Needs.{needs}
 use Rattle.record.proofs.word_or.Statement.{statement}
 use Rattle.record.proofs.word_or.Tie as tie
 

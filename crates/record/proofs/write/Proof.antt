@@ -1,6 +1,6 @@
 -- `write` meets its contract.
-use mathlib.Core.Path.{_≡_, refl, sym, ap, _∙_}
-use Prim.Native.Nat.{ℕ, _≤_}
+use mathlib.Core.Path.{_≡_, sym, _∙_}
+use Prim.Native.Nat.{_≤_}
 use native.Mathlib.Omega.{arith}
 use borrow.Author.Needs.{needs}
 use lib.ListN.{length}
@@ -8,7 +8,7 @@ use Rattle.record.specs.declared.Written.the-variants as W
 use Rattle.record.specs.Layout.{recordOf}
 use Rattle.record.specs.Outcome.{writeOf, WritePromise}
 use Rattle.record.proofs.Agreement.{written-agrees}
-use Rattle.record.proofs.RoundTrip.{length-written}
+use Rattle.record.proofs.ReadBack.{length-written}
 use Rattle.record.proofs.Stores.{record-length, record-stores}
 use Rattle.record.proofs.WritingLaws.{refused-by-fields, no-room, is-written}
 use Rattle.record.proofs.write.Statement.{statement}
@@ -64,8 +64,9 @@ written c =
     length-written (a .x) (n .record-length .ensures) (m .map-byte .ensures) in
     let fits : length (recordOf (a .x)) ≤ length (a .out .now) = omega (arith, h .before .before .if2 .left) in
     let w = is-written (a .x) (a .out .now) (sym (k .refusal .ensures) ∙ m .before .if1 .left) fits in
-    let put =
-    record-stores (a .x) (m .map-byte .result) (a .out .now) _ _ (m .map-byte .ensures) (h .put-head .ensures) (t .put-tail .ensures) fits in
+    let head = h .put-head .ensures in
+    let tail = t .put-tail .ensures in
+    let put = record-stores (a .x) _ (a .out .now) _ _ (m .map-byte .ensures) head tail fits in
     let answer : W.Length (n .record-length .result) ≡ writeOf (a .x) (a .out .now) = rw size (w .answer) in
     let promise : WritePromise (a .x) (a .out .now) (W.Length (n .record-length .result)) = rw size (w .promise) in
     (answer, (promise, put ∙ w .bytes))

@@ -14,8 +14,9 @@ returns c =
     let three = four .before in
     let two = three .before in
     let s = two .before .args .s in
-    by-limits booreAtkinson s (c .first .ensures) (two .outside .ensures) (three .outside2 .ensures) (four .outside3 .ensures)
-    (five .unknown .ensures) (boore-atkinson-untabled (s .period) (six .boore-atkinson-row .ensures))
+    let row = boore-atkinson-untabled (s .period) (six .boore-atkinson-row .ensures) in
+    by-limits booreAtkinson s (c .first .ensures) (two .outside .ensures) (three .outside2 .ensures)
+    (four .outside3 .ensures) (five .unknown .ensures) row
 
 pub boore-atkinson-refusal-spec : {M : Type 1} → statement M
 boore-atkinson-refusal-spec =

@@ -14,8 +14,9 @@ returns c =
     let three = four .before in
     let two = three .before in
     let s = two .before .args .s in
-    by-limits idriss s (c .first .ensures) (two .outside .ensures) (three .outside2 .ensures) (four .outside3 .ensures)
-    (five .unknown .ensures) (idriss-untabled (s .period) (six .idriss-row .ensures))
+    let row = idriss-untabled (s .period) (six .idriss-row .ensures) in
+    by-limits idriss s (c .first .ensures) (two .outside .ensures) (three .outside2 .ensures)
+    (four .outside3 .ensures) (five .unknown .ensures) row
 
 pub idriss-refusal-spec : {M : Type 1} → statement M
 idriss-refusal-spec =

@@ -1,11 +1,19 @@
 -- `idriss_row` meets its contract: an answer for each period of the list, and one for every other.
 use mathlib.Core.Path.{_≡_, refl}
+use mathlib.Core.List.{_∷_}
 use Prim.Native.Nat.{ℕ}
 use borrow.Author.Tests.{ne-eqb}
 use Rattle.scenario.specs.Refusal.{idriss, idrissRow}
-use Rattle.scenario.proofs.ListLaws.{earlier, missed}
+use Rattle.scenario.proofs.ListLaws.{Missed, earlier, missed}
 use Rattle.scenario.proofs.idriss_row.Statement.{statement}
 use Rattle.scenario.proofs.idriss_row.Tie as tie
+
+-- a period that is neither 0 nor in the list
+untabled : (T : ℕ) → Missed (Unit {0}) (0 ∷ idriss .periods) T → 22 ≡ idrissRow T
+unfolding idrissRow
+untabled T m =
+    let zero = ne-eqb T 0 (earlier (Unit {0} × (T ≡ 0 → ⊥)) (idriss .periods) T m .1) in
+    rw zero (missed (Unit {0} × (T ≡ 0 → ⊥)) (idriss .periods) T m)
 
 pub idriss-row-spec : {M : Type 1} → statement M
 unfolding idrissRow
@@ -35,4 +43,4 @@ idriss-row-spec =
     (λ c. rw (c .match .keys21) refl)
     (λ c. rw (c .match .keys22) refl)
     (λ c. rw (c .match .keys23) refl)
-    (λ c. let T = c .before .args .period in let before = Unit {0} × (T ≡ 0 → ⊥) in rw (ne-eqb T 0 (earlier before (idriss .periods) T (c .match .rest) .1)) (missed before (idriss .periods) T (c .match .rest))))
+    (λ c. untabled (c .before .args .period) (c .match .rest)))

@@ -12,8 +12,8 @@ idriss c = simp (eq-eqb _ _ (c .before .if1 .taken), c .idriss-refusal .ensures)
 boore-atkinson : tie.Need-returns-2
 unfolding refusalOf
 boore-atkinson c =
-    simp
-    (ne-eqb _ _ (c .before .before .before .if1 .left), eq-eqb _ _ (c .before .if2 .taken), c .boore-atkinson-refusal .ensures)
+    let other = ne-eqb _ _ (c .before .before .before .if1 .left) in
+    simp (other, eq-eqb _ _ (c .before .if2 .taken), c .boore-atkinson-refusal .ensures)
 
 neither : tie.Need-returns-3
 unfolding refusalOf

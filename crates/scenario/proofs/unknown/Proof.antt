@@ -1,11 +1,12 @@
 -- `unknown` meets its contract.
 use mathlib.Core.Path.{_≡_, refl}
-use mathlib.Core.Bool.{not, or-false}
+use mathlib.Core.Bool.{false, not, or-false}
 use mathlib.Core.List.{[], _∷_}
 use Prim.Native.Nat.{ℕ, zero, suc, _≤_}
 use native.Mathlib.Omega.{arith}
+use borrow.Author.Needs.{needs}
 use borrow.Author.Tests.{ne-eqb}
-use lib.Dec.{ltb}
+use lib.Dec.{eqb, ltb}
 use Rattle.scenario.specs.Lists.{among}
 use Rattle.scenario.proofs.unknown.Statement.{statement}
 use Rattle.scenario.proofs.unknown.Tie as tie
@@ -13,7 +14,8 @@ use Rattle.scenario.proofs.unknown.Tie as tie
 above : tie.Need-returns
 above c =
     let x = c .before .args .code in
-    simp (ne-eqb x 0 (λ e. omega arith), ne-eqb x 1 (λ e. omega arith), ne-eqb x 2 (λ e. omega arith), ne-eqb x 3 (λ e. omega arith), or-false)
+    let no : (k : ℕ) → k ≤ 3 → eqb x k ≡ false = λ k h. ne-eqb x k (λ e. omega arith) in
+    simp (no 0 (search needs), no 1 (search needs), no 2 (search needs), no 3 (search needs), or-false)
 
 below : (x other : ℕ) → x ≤ 3 → ltb 3 x ≡ not (among (0 ∷ 1 ∷ 2 ∷ 3 ∷ other ∷ []) x)
 below zero other h = refl
