@@ -22,6 +22,7 @@ outside: probe
 	python3 tests/test_exact.py
 	python3 tests/test_values.py
 	python3 tests/test_logarithm.py $(PROBE)
+	python3 tests/test_records.py $(PROBE)
 
 # A program over the proved library, for the tests.
 probe: need
