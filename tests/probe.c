@@ -1,4 +1,4 @@
-/* Answers lines of standard input with the proved functions, one line for each (bytes are hexadecimal pairs, - for none):
+/* Answers lines of standard input with the proved functions, one line each (bytes are hexadecimal pairs, - for none):
    ln A B                 LOW HIGH, or none where the arguments are out of the function's domain
    root X                 R, or none
    refusal SCENARIO       the number of the refusal, 0 for none; a SCENARIO is model magnitude distance velocity
@@ -40,7 +40,8 @@ extern size_t probe_row(uint8_t model, uint16_t period);
 extern ProbedReading probe_read(const uint8_t *bytes, size_t count, size_t place);
 extern ProbedWriting probe_write(Fields f, uint8_t *bytes, size_t count);
 
-enum { LONGEST = 1024 };
+/* The most bytes of a question, and how many stand after lent bytes to see whether they are touched. */
+enum { LONGEST = 1024, GUARDS = 16, GUARD = 0x5a };
 
 #define FIELDS "%" SCNu8 " %" SCNu16 " %" SCNu16 " %" SCNu16 " %" SCNu8 " %" SCNu16
 #define INTO(f) &(f).model, &(f).magnitude, &(f).distance, &(f).velocity, &(f).mechanism, &(f).period
@@ -75,7 +76,8 @@ static void answer_read(const uint8_t *bytes, size_t n)
     uint8_t rest[LONGEST];
 
     if (r.number == 0)
-        printf("E %u %u %u %u %u %u %zu ", f.model, f.magnitude, f.distance, f.velocity, f.mechanism, f.period, r.length);
+        printf("E %u %u %u %u %u %u %zu ", f.model, f.magnitude, f.distance, f.velocity, f.mechanism, f.period,
+               r.length);
     else
         printf("R %u ", r.number);
     for (size_t i = 0; i < r.left && i < LONGEST; i++)
@@ -85,8 +87,13 @@ static void answer_read(const uint8_t *bytes, size_t n)
 
 static void answer_write(Fields f, uint8_t *bytes, size_t n)
 {
-    ProbedWriting w = probe_write(f, bytes, n);
+    ProbedWriting w;
 
+    memset(bytes + n, GUARD, GUARDS);
+    w = probe_write(f, bytes, n);
+    for (size_t i = 0; i < GUARDS; i++)
+        if (bytes[n + i] != GUARD)
+            printf("past the end ");
     if (w.number == 0)
         printf("L %zu ", w.length);
     else
@@ -98,7 +105,7 @@ static void answer_write(Fields f, uint8_t *bytes, size_t n)
 static int answer(const char *line)
 {
     static char text[2 * LONGEST + 1];
-    static uint8_t bytes[LONGEST];
+    static uint8_t bytes[LONGEST + GUARDS];
     uint64_t a, b;
     Fields f;
     long n;

@@ -81,7 +81,7 @@ def row(model, period):
         rows = PERIODS[IDRISS]
         wanted = 10 if period == 0 else period
     else:
-        # "Period 0 uses the row PGA."  It is the first.
+        # "Period 0 uses the row PGA."  The rows are counted from it; the printed row PGV before it is out of scope.
         rows = (0,) + PERIODS[BOORE_ATKINSON]
         wanted = period
     return rows.index(wanted) if wanted in rows else NO_ROW

@@ -37,7 +37,7 @@ class Question(NamedTuple):
 
 
 # ---------------------------------------------------------------------------
-# What document 01 prints, typed in by hand
+# What document 01 prints, typed in by hand, with the numbers next to its limits
 # ---------------------------------------------------------------------------
 
 PAPER = (
@@ -231,7 +231,7 @@ def three_ways(kind, scenario, number):
 
 
 def paper():
-    """What document 01 prints."""
+    """What document 01 prints, and the numbers next to its limits."""
     for words, lines in PAPER:
         for line, stated in lines:
             yield Question(f'"{words}"', line, stated)
@@ -293,11 +293,11 @@ def map_bytes():
     """Every map byte with too few bytes, enough and too many, and fields with something wrong or not."""
     kind = 'map bytes'
     nothing_wrong = GOOD[2]
-    plain = with_fields(GOOD[2], DEFAULTS)
+    defaults = with_fields(GOOD[2], DEFAULTS)
     wrong = Scenario(3, 0, 65535, 0, 200, 70)
-    wrong_and_plain = with_fields(wrong, DEFAULTS)
+    wrong_defaults = with_fields(wrong, DEFAULTS)
     for map_byte in range(256):
-        for scenario in (nothing_wrong, plain, wrong, wrong_and_plain):
+        for scenario in (nothing_wrong, defaults, wrong, wrong_defaults):
             whole = raw(map_byte, scenario)
             for data in (whole[:1], whole[:-1], whole, whole + b'\x00', whole + rising(7)):
                 rest = data[len(whole):]
@@ -309,9 +309,9 @@ def map_bytes():
                     stated = 'R 9 -'
                 elif len(data) < len(whole):
                     stated = 'R 7 -'
-                elif scenario in (plain, wrong_and_plain) and map_byte != 0x07:
+                elif scenario in (defaults, wrong_defaults) and map_byte != 0x07:
                     stated = 'R 11 -'
-                elif scenario in (wrong, wrong_and_plain):
+                elif scenario in (wrong, wrong_defaults):
                     stated = 'R 1 -'
                 else:
                     stated = text('E', *as_read(map_byte, scenario), len(whole), show(rest))

@@ -9,23 +9,22 @@ use Rattle.scenario.specs.declared.Scenario.{Scenario}
 use Rattle.scenario.specs.Refusal.{idrissRow, booreAtkinsonRow}
 use Rattle.record.specs.declared.Reading.{Reading}
 use Rattle.record.specs.declared.Reading.the-variants as R
-use Rattle.record.specs.declared.Written.{Written}
-use Rattle.record.specs.declared.Written.the-variants as W
+use Rattle.record.specs.declared.Writing.{Writing}
+use Rattle.record.specs.declared.Writing.the-variants as W
 use Rattle.record.specs.Outcome.{readOf, restOf, writeOf}
 use Rattle.probe.specs.declared.Probed.{Probed}
 use Rattle.probe.specs.declared.Fields.{Fields}
 use Rattle.probe.specs.declared.ProbedReading.{ProbedReading}
 use Rattle.probe.specs.declared.ProbedWriting.{ProbedWriting}
 
--- no ends
-abbrev pub none : Probed
-none = record { low = 1; high = 0 }
+abbrev pub noEnds : Probed
+noEnds = record { low = 1; high = 0 }
 
 -- the ends of ln(a/b), unless b is 0, a is below b or a is 2^29 or more
 unfoldable pub probedLn : ℕ → ℕ → Probed
 probedLn a b =
-    cond (eqb b 0) none
-    (cond (ltb a b) none (cond (leb 536_870_912 a) none (record { low = lnOf a b .low; high = lnOf a b .high })))
+    cond (eqb b 0) noEnds
+    (cond (ltb a b) noEnds (cond (leb 536_870_912 a) noEnds (record { low = lnOf a b .low; high = lnOf a b .high })))
 
 -- the root's lower value at fineness 131072; where x is 2^29 or more, 2^64 − 1
 unfoldable pub probedRoot : ℕ → ℕ
@@ -71,7 +70,7 @@ probed (R.Refused k) left byte =
 unfoldable pub probedReading : List ℕ → ℕ → ProbedReading
 probedReading s i = probed (readOf s) (length (restOf s)) (getD (restOf s) i 0)
 
-abbrev pub probedWritten : Written → ProbedWriting
+abbrev pub probedWritten : Writing → ProbedWriting
 probedWritten (W.Length n) = record { number = 0; length = n }
 probedWritten (W.Refused k) = record { number = k; length = 0 }
 

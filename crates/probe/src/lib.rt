@@ -5,7 +5,7 @@ ghost use Rattle.scenario.specs.Refusal.{refusalOf};
 ghost use Rattle.record.specs.Outcome.{lentAfter};
 ghost use Rattle.probe.specs.Probe.{probedLn, probedRoot, scenarioFrom, probedRow, probedReading, probedWriting};
 use record::Reading;
-use record::Written;
+use record::Writing;
 use scenario::Scenario;
 
 // The ends of a logarithm. Where there are none, low is 1 and high 0.
@@ -160,7 +160,7 @@ pub extern "C" fn probe_write(f: Fields, out: &mut [u8]) -> ProbedWriting
     ensures { λ _. ⌜ now (out .exit) ≡ lentAfter (scenarioFrom f) (now (out .entry)) ⌝ }
 {
     match record::write(scenario_from(f), out) {
-        Written::Length(length) => ProbedWriting { number: 0, length },
-        Written::Refused(number) => ProbedWriting { number, length: 0 },
+        Writing::Length(length) => ProbedWriting { number: 0, length },
+        Writing::Refused(number) => ProbedWriting { number, length: 0 },
     }
 }

@@ -3,11 +3,12 @@
 use mathlib.Core.Path.{_≡_, refl, sym, ap}
 use mathlib.Core.Bool.{Bool, true, false, not, cond, _&&_, _||_}
 use mathlib.Core.List.{List, [], _∷_}
-use Prim.Native.Nat.{ℕ, _+_, _^_}
-use lib.Dec.{eqb}
+use Prim.Native.Nat.{ℕ, _+_, _^_, _<_}
+use native.Mathlib.Omega.{arith}
+use lib.Dec.{T, eqb, ltb, ltb→lt}
 use lib.ListN.{length, length-append}
 use Rattle.scenario.specs.declared.Scenario.{Scenario}
-use Rattle.record.specs.Layout.{Field, layout, isAbsent, stands, sizeOf, defaultWritten, bytesOf, mapOf, partsOf}
+use Rattle.record.specs.Layout.{Field, layout, isAbsent, stands, sizeOf, absentWritten, bytesOf, mapOf, partsOf}
 use Rattle.record.specs.Outcome.{mapRefusal}
 use Rattle.record.proofs.ByteLaws.{bytes-length}
 use Rattle.record.proofs.MapLaws.{rebuilt}
@@ -41,8 +42,8 @@ map-agrees (f ∷ fs) m x h =
     go false = refl
 
 -- and no field written with its absent number
-pub apart-agrees : (fs : List Field) (m : ℕ) (x : Scenario) → Agree fs m x → defaultWritten fs m x ≡ false
-unfolding defaultWritten
+pub apart-agrees : (fs : List Field) (m : ℕ) (x : Scenario) → Agree fs m x → absentWritten fs m x ≡ false
+unfolding absentWritten
 apart-agrees [] m x h = refl
 apart-agrees (f ∷ fs) m x h =
     rw (h .0, apart-agrees fs m x (h .1)) (go (isAbsent (f .absent) (f .value x)))
@@ -57,23 +58,29 @@ apart-agrees (f ∷ fs) m x h =
 abbrev mapBut : Bool → Bool → Bool → ℕ
 mapBut a b c = 1 + (2 + (4 + (cond a 0 8 + (cond b 0 16 + (cond c 0 32 + 0)))))
 
--- it passes, and its bits agree
+-- it is a byte, it passes, and its bits agree
 abbrev Passing : ℕ → Bool → Bool → Bool → Type 0
 Passing m a b c =
-    (mapRefusal m ≡ 0) × ((stands 0 m ≡ true) × ((stands 1 m ≡ true) × ((stands 2 m ≡ true) ×
-    ((stands 3 m ≡ not a) × ((stands 4 m ≡ not b) × ((stands 5 m ≡ not c) × Unit {0}))))))
+    T (ltb m 64) × ((mapRefusal m ≡ 0) × ((stands 0 m ≡ true) × ((stands 1 m ≡ true) × ((stands 2 m ≡ true) ×
+    ((stands 3 m ≡ not a) × ((stands 4 m ≡ not b) × ((stands 5 m ≡ not c) × Unit {0})))))))
 
 passing : (a b c : Bool) → Passing (mapBut a b c) a b c
 unfolding mapRefusal
-passing true true true = (refl, (refl, (refl, (refl, (refl, (refl, (refl, tt)))))))
-passing true true false = (refl, (refl, (refl, (refl, (refl, (refl, (refl, tt)))))))
-passing true false true = (refl, (refl, (refl, (refl, (refl, (refl, (refl, tt)))))))
-passing true false false = (refl, (refl, (refl, (refl, (refl, (refl, (refl, tt)))))))
-passing false true true = (refl, (refl, (refl, (refl, (refl, (refl, (refl, tt)))))))
-passing false true false = (refl, (refl, (refl, (refl, (refl, (refl, (refl, tt)))))))
-passing false false true = (refl, (refl, (refl, (refl, (refl, (refl, (refl, tt)))))))
-passing false false false = (refl, (refl, (refl, (refl, (refl, (refl, (refl, tt)))))))
+passing true true true = (tt, (refl, (refl, (refl, (refl, (refl, (refl, (refl, tt))))))))
+passing true true false = (tt, (refl, (refl, (refl, (refl, (refl, (refl, (refl, tt))))))))
+passing true false true = (tt, (refl, (refl, (refl, (refl, (refl, (refl, (refl, tt))))))))
+passing true false false = (tt, (refl, (refl, (refl, (refl, (refl, (refl, (refl, tt))))))))
+passing false true true = (tt, (refl, (refl, (refl, (refl, (refl, (refl, (refl, tt))))))))
+passing false true false = (tt, (refl, (refl, (refl, (refl, (refl, (refl, (refl, tt))))))))
+passing false false true = (tt, (refl, (refl, (refl, (refl, (refl, (refl, (refl, tt))))))))
+passing false false false = (tt, (refl, (refl, (refl, (refl, (refl, (refl, (refl, tt))))))))
 
 pub written-agrees : (x : Scenario) → (mapRefusal (mapOf layout x) ≡ 0) × Agree layout (mapOf layout x) x
 unfolding mapOf
-written-agrees x = passing (eqb (x .velocity) 7_600) (eqb (x .mechanism) 9) (eqb (x .period) 0)
+written-agrees x = passing (eqb (x .velocity) 7_600) (eqb (x .mechanism) 9) (eqb (x .period) 0) .1
+
+pub written-small : (x : Scenario) → mapOf layout x < 256
+unfolding mapOf
+written-small x =
+    let p = passing (eqb (x .velocity) 7_600) (eqb (x .mechanism) 9) (eqb (x .period) 0) in
+    omega (arith, ltb→lt (mapOf layout x) 64 (p .0))

@@ -5,6 +5,7 @@ pub mod Laws
 pub mod MapLaws
 pub mod ReadBack
 pub mod ReadingLaws
+pub mod RecordBytes
 pub mod Stores
 pub mod WriteBack
 pub mod WritingLaws

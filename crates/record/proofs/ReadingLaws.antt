@@ -7,11 +7,12 @@ use native.Mathlib.Omega.{arith}
 use borrow.Author.Tests.{eqb-false, ltb-false}
 use lib.Dec.{eqb, ltb}
 use lib.ListN.{length, drop}
+use Rattle.scenario.specs.declared.Scenario.{Scenario}
 use Rattle.scenario.specs.Checks.{_when_, unlessRefused}
 use Rattle.scenario.specs.Refusal.{refusalOf}
 use Rattle.scenario.proofs.CheckLaws.{none-of, not-when, is-refused}
 use Rattle.record.specs.declared.Reading.the-variants.{Read, Refused}
-use Rattle.record.specs.Layout.{layout, defaultWritten}
+use Rattle.record.specs.Layout.{layout, absentWritten}
 use Rattle.record.specs.Outcome.{mapIn, scenarioIn, lengthBy, mapRefusal}
 use Rattle.record.specs.Outcome.{readRefusal, readOf, restOf, ReadPromise}
 
@@ -20,7 +21,7 @@ pub record Accepted (s : List ℕ) : Type 0 where
   pub some : 0 < length s
   pub passes : mapRefusal (mapIn s) ≡ 0
   pub room : lengthBy (mapIn s) ≤ length s
-  pub apart : defaultWritten layout (mapIn s) (scenarioIn s) ≡ false
+  pub apart : absentWritten layout (mapIn s) (scenarioIn s) ≡ false
   pub taken : refusalOf (scenarioIn s) ≡ 0
 
 pub accepted : (s : List ℕ) → readRefusal s ≡ 0 → Accepted s
@@ -30,7 +31,7 @@ accepted s e =
     let a = none-of (7 when eqb (length s) 0) _ e in
     let b = none-of (mapRefusal m) _ (a .1) in
     let c = none-of (7 when ltb (length s) (lengthBy m)) _ (b .1) in
-    let d = none-of (11 when defaultWritten layout m (scenarioIn s)) _ (c .1) in
+    let d = none-of (11 when absentWritten layout m (scenarioIn s)) _ (c .1) in
     let z = eqb-false (length s) 0 (not-when 6 _ (a .0)) in
     record {
       some = omega (arith, z);
@@ -57,3 +58,19 @@ read-promise s = go (readRefusal s) refl
         ReadPromise s (unlessRefused k (Read (scenarioIn s) (lengthBy (mapIn s))) (Refused k))
     go zero e = record { number = sym e; values = rw e refl }
     go (suc k) e = record { number = sym e; values = rw e refl }
+
+-- ---- bytes that are read as x, a record of n bytes
+
+pub record ReadAs (s : List ℕ) (x : Scenario) (n : ℕ) : Type 0 where
+  pub passes : Accepted s
+  pub scenario : scenarioIn s ≡ x
+  pub size : lengthBy (mapIn s) ≡ n
+
+pub read-as : (s : List ℕ) (x : Scenario) (n : ℕ) → readOf s ≡ Read x n → ReadAs s x n
+unfolding readOf
+read-as s x n e = go (readRefusal s) refl e
+  where
+    go : (k : ℕ) → readRefusal s ≡ k →
+        unlessRefused k (Read (scenarioIn s) (lengthBy (mapIn s))) (Refused k) ≡ Read x n → ReadAs s x n
+    go zero p q = record { passes = accepted s p; scenario = cc; size = cc }
+    go (suc k) p q = let z : _≡_ {A = ℕ} 0 1 = cc in absurd (omega arith)

@@ -10,10 +10,10 @@ use lib.Dec.{eqb}
 use lib.ListN.{length, take, drop, length-drop}
 use lib.Seq.{take-add}
 use Rattle.scenario.specs.declared.Scenario.{Scenario}
-use Rattle.record.specs.Layout.{Field, layout, isAbsent, absentNumber, stands, numberOf, sizeOf, numbersOf}
-use Rattle.record.specs.Layout.{defaultWritten, partOf, partsOf, recordOf}
+use Rattle.record.specs.Layout.{Bytes, Field, layout, isAbsent, absentNumber, stands, numberOf, sizeOf, numbersOf}
+use Rattle.record.specs.Layout.{absentWritten, partOf, partsOf, recordOf}
 use Rattle.record.specs.Outcome.{mapIn, scenarioIn, lengthBy, mapRefusal}
-use Rattle.record.proofs.ByteLaws.{Bytes, bytes-drop, bytes-back}
+use Rattle.record.proofs.ByteLaws.{bytes-drop, bytes-back}
 use Rattle.record.proofs.MapLaws.{passed, map-rebuilt, map-small}
 use Rattle.record.proofs.ReadingLaws.{Accepted}
 use Rattle.record.proofs.Agreement.{Agree, map-agrees}
@@ -62,15 +62,15 @@ kept w (some d) v false s e a r h l =
 
 -- and all of them
 all-kept : (fs : List Field) (m : ℕ) (x : Scenario) (s : List ℕ) → numbersOf fs m s ≡ map (λ f. f .value x) fs →
-    defaultWritten fs m x ≡ false → Required fs m → Bytes s → sizeOf fs m ≤ length s →
+    absentWritten fs m x ≡ false → Required fs m → Bytes s → sizeOf fs m ≤ length s →
     Agree fs m x × (partsOf fs x ≡ take (sizeOf fs m) s)
-unfolding numbersOf defaultWritten sizeOf partsOf
+unfolding numbersOf absentWritten sizeOf partsOf
 all-kept [] m x s e a r h l = (tt, refl)
 all-kept (f ∷ fs) m x s e a r h l =
     let b = stands (f .bit) m in
     let n = cond b (f .width) 0 in
-    let here = or-left (isAbsent (f .absent) (f .value x) && b) (defaultWritten fs m x) a in
-    let later = or-right (isAbsent (f .absent) (f .value x) && b) (defaultWritten fs m x) a in
+    let here = or-left (isAbsent (f .absent) (f .value x) && b) (absentWritten fs m x) a in
+    let later = or-right (isAbsent (f .absent) (f .value x) && b) (absentWritten fs m x) a in
     let room : sizeOf fs m ≤ length (drop n s) = simp length-drop (omega arith) in
     let k = kept (f .width) (f .absent) (f .value x) b s (cc) here (r .0) h (omega arith) in
     let ih = all-kept fs m x (drop n s) (cc) later (r .1) (bytes-drop n s h) room in

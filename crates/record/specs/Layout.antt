@@ -1,9 +1,9 @@
 -- The record of a scenario: a map byte, then the fields whose bits stand.
--- Document 01, 'Records and doubles'.
+-- Document 01, 'Records and doubles', unless another place is named.
 use mathlib.Core.Bool.{Bool, false, cond, _&&_, _||_}
 use mathlib.Core.List.{List, [], _∷_, _++_}
 use mathlib.Core.Option.{Option, none, some}
-use Prim.Native.Nat.{ℕ, zero, suc, _+_, _*_, _/_, _%_, _^_}
+use Prim.Native.Nat.{ℕ, zero, suc, _+_, _*_, _/_, _%_, _^_, _<_}
 use lib.Dec.{eqb}
 use lib.ListN.{getD, take, drop}
 use Rattle.scenario.specs.declared.Scenario.{Scenario}
@@ -59,7 +59,11 @@ stands k m = eqb (m / 2 ^ k % 2) 1
 
 -- ---- from a record, its map byte m and its bytes s
 
--- "Low byte first"
+-- every element of a list is a byte
+abbrev pub Bytes : List ℕ → Type 0
+Bytes s = (i : ℕ) → getD s i 0 < 256
+
+-- the number of bytes, "Low byte first"
 abbrev pub numberOf : List ℕ → ℕ
 numberOf [] = 0
 numberOf (b ∷ bs) = b + 256 * numberOf bs
@@ -76,14 +80,15 @@ numbersOf (f ∷ fs) m s =
     cond (stands (f .bit) m) (numberOf (take (f .width) s)) (absentNumber (f .absent)) ∷
     numbersOf fs m (drop (cond (stands (f .bit) m) (f .width) 0) s)
 
--- "a field written with its absent number"
-unfoldable pub defaultWritten : List Field → ℕ → Scenario → Bool
-defaultWritten [] m x = false
-defaultWritten (f ∷ fs) m x = (isAbsent (f .absent) (f .value x) && stands (f .bit) m) || defaultWritten fs m x
+-- "a field written with its absent number" ('What is turned away')
+unfoldable pub absentWritten : List Field → ℕ → Scenario → Bool
+absentWritten [] m x = false
+absentWritten (f ∷ fs) m x = (isAbsent (f .absent) (f .value x) && stands (f .bit) m) || absentWritten fs m x
 
 -- ---- to a record
 
--- so many bytes of a number
+-- the bytes of a number, "Low byte first"; the last one is all that is left of it, uncut, and is a byte if the number
+-- fits the width
 abbrev pub bytesOf : ℕ → ℕ → List ℕ
 bytesOf zero x = []
 bytesOf (suc zero) x = x ∷ []
@@ -102,6 +107,6 @@ unfoldable pub partsOf : List Field → Scenario → List ℕ
 partsOf [] x = []
 partsOf (f ∷ fs) x = partOf (f .width) (f .absent) (f .value x) ++ partsOf fs x
 
--- "its one record"
+-- "its one record" (demand 2)
 unfoldable pub recordOf : Scenario → List ℕ
 recordOf x = mapOf layout x ∷ partsOf layout x

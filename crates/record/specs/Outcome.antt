@@ -11,9 +11,9 @@ use Rattle.scenario.specs.Checks.{_when_, _otherwise_, unlessRefused}
 use Rattle.scenario.specs.Refusal.{refusalOf}
 use Rattle.record.specs.declared.Reading.{Reading}
 use Rattle.record.specs.declared.Reading.the-variants as R
-use Rattle.record.specs.declared.Written.{Written}
-use Rattle.record.specs.declared.Written.the-variants as W
-use Rattle.record.specs.Layout.{layout, scenarioOf, stands, sizeOf, numbersOf, defaultWritten, recordOf}
+use Rattle.record.specs.declared.Writing.{Writing}
+use Rattle.record.specs.declared.Writing.the-variants as W
+use Rattle.record.specs.Layout.{layout, scenarioOf, stands, sizeOf, numbersOf, absentWritten, recordOf}
 
 -- ---- reading
 
@@ -42,7 +42,7 @@ readRefusal s =
     7 when eqb (length s) 0 otherwise
     mapRefusal (mapIn s) otherwise
     7 when ltb (length s) (lengthBy (mapIn s)) otherwise
-    11 when defaultWritten layout (mapIn s) (scenarioIn s) otherwise
+    11 when absentWritten layout (mapIn s) (scenarioIn s) otherwise
     refusalOf (scenarioIn s)
 
 unfoldable pub readOf : List ℕ → Reading
@@ -52,7 +52,7 @@ readOf s = unlessRefused (readRefusal s) (R.Read (scenarioIn s) (lengthBy (mapIn
 unfoldable pub restOf : List ℕ → List ℕ
 restOf s = unlessRefused (readRefusal s) (drop (lengthBy (mapIn s)) s) []
 
--- "this paper's number and values for each of its cases": 0 is no refusal
+-- "this paper's number and values for each of its cases" ('What form each place needs'): 0 is no refusal
 abbrev pub readingNumber : Reading → ℕ
 readingNumber (R.Read x n) = 0
 readingNumber (R.Refused k) = k
@@ -77,7 +77,7 @@ unfoldable pub writeRefusal : Scenario → List ℕ → ℕ
 writeRefusal x lent = refusalOf x otherwise 12 when ltb (length lent) (length (recordOf x))
 
 -- "it returns the record's length"
-unfoldable pub writeOf : Scenario → List ℕ → Written
+unfoldable pub writeOf : Scenario → List ℕ → Writing
 writeOf x lent =
     unlessRefused (writeRefusal x lent) (W.Length (length (recordOf x))) (W.Refused (writeRefusal x lent))
 
@@ -86,15 +86,15 @@ writeOf x lent =
 unfoldable pub lentAfter : Scenario → List ℕ → List ℕ
 lentAfter x lent = unlessRefused (writeRefusal x lent) (recordOf x ++ drop (length (recordOf x)) lent) lent
 
-abbrev pub writtenNumber : Written → ℕ
-writtenNumber (W.Length n) = 0
-writtenNumber (W.Refused k) = k
+abbrev pub writingNumber : Writing → ℕ
+writingNumber (W.Length n) = 0
+writingNumber (W.Refused k) = k
 
-abbrev pub writtenValues : Written → List ℕ
-writtenValues (W.Length n) = n ∷ []
-writtenValues (W.Refused k) = []
+abbrev pub writingValues : Writing → List ℕ
+writingValues (W.Length n) = n ∷ []
+writingValues (W.Refused k) = []
 
 -- what is promised of writing x to lent bytes
-pub record WritePromise (x : Scenario) (lent : List ℕ) (r : Written) : Type 0 where
-  pub number : writtenNumber r ≡ writeRefusal x lent
-  pub values : writtenValues r ≡ unlessRefused (writeRefusal x lent) (length (recordOf x) ∷ []) []
+pub record WritePromise (x : Scenario) (lent : List ℕ) (r : Writing) : Type 0 where
+  pub number : writingNumber r ≡ writeRefusal x lent
+  pub values : writingValues r ≡ unlessRefused (writeRefusal x lent) (length (recordOf x) ∷ []) []

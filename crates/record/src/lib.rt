@@ -6,7 +6,7 @@ ghost use Prim.Native.Nat.{_+_, _≤_, _<_};
 ghost use lib.ListN.{length, take, drop};
 ghost use lib.Seq.{sets};
 ghost use mathlib.Core.Option.{some};
-ghost use Rattle.record.specs.Layout.{layout, numberOf, defaultWritten, mapOf, partOf, partsOf};
+ghost use Rattle.record.specs.Layout.{layout, numberOf, absentWritten, mapOf, partOf, partsOf};
 ghost use Rattle.record.specs.Outcome.{mapIn, scenarioIn, lengthBy, mapRefusal, readRefusal, readOf, restOf, ReadPromise};
 ghost use Rattle.record.specs.Outcome.{writeOf, lentAfter, WritePromise};
 ghost use Rattle.record.specs.Steps.{Put};
@@ -19,7 +19,7 @@ pub enum Reading {
 }
 
 // What writing answers: the length of the record, or the number with which it is turned away.
-pub enum Written {
+pub enum Writing {
     Length(usize),
     Refused(u8),
 }
@@ -140,8 +140,8 @@ fn any(a: bool, b: bool, c: bool) -> bool
 }
 
 // A field of x that stands in the map m has its absent number.
-fn default_written(m: u8, x: Scenario) -> bool
-    ensures { λ r. ⌜ r ≡ defaultWritten layout m x ⌝ }
+fn absent_written(m: u8, x: Scenario) -> bool
+    ensures { λ r. ⌜ r ≡ absentWritten layout m x ⌝ }
 {
     any(
         both(x.velocity == 7_600, m / 8 % 2 == 1),
@@ -166,7 +166,7 @@ fn read_refusal(s: &[u8]) -> u8
         return 7;
     }
     let x = fields(s);
-    if default_written(m, x) {
+    if absent_written(m, x) {
         return 11;
     }
     scenario::refusal(x)
@@ -185,7 +185,7 @@ pub fn read(s: &[u8]) -> Reading
     Reading::Read(x, n)
 }
 
-// The part of s after the record that is read at its front.
+// The part of s after the record that is read at its front; of a refused read none.
 pub fn rest(s: &[u8]) -> &[u8]
     ensures { λ r. ⌜ now r ≡ restOf (now (s .entry)) ⌝ }
 {
@@ -254,21 +254,21 @@ fn put_tail(x: Scenario, out: &mut [u8])
 }
 
 // Puts the record of x at the front of out and answers its length.
-pub fn write(x: Scenario, out: &mut [u8]) -> Written
+pub fn write(x: Scenario, out: &mut [u8]) -> Writing
     ensures { λ r. ⌜ r ≡ writeOf x (now (out .entry)) ⌝ }
     ensures { λ r. ⌜ WritePromise x (now (out .entry)) r ⌝ }
     ensures { λ _. ⌜ now (out .exit) ≡ lentAfter x (now (out .entry)) ⌝ }
 {
     let k = scenario::refusal(x);
     if k != 0 {
-        return Written::Refused(k);
+        return Writing::Refused(k);
     }
     let m = map_byte(x);
     let n = record_length(m);
     if out.len() < n {
-        return Written::Refused(12);
+        return Writing::Refused(12);
     }
     put_head(x, m, out);
     put_tail(x, out);
-    Written::Length(n)
+    Writing::Length(n)
 }

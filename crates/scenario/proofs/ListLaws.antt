@@ -1,10 +1,11 @@
 -- Laws of a search through a list, for any list.
 use mathlib.Core.Path.{_≡_, refl, ap, _∙_}
-use mathlib.Core.Bool.{Bool, true, false, not, _||_, cond}
+use mathlib.Core.Bool.{Bool, true, false, not, _&&_, _||_, cond}
 use mathlib.Core.List.{List, [], _∷_}
-use Prim.Native.Nat.{ℕ, suc}
-use borrow.Author.Tests.{ne-eqb}
-use lib.Dec.{eqb, eqb·suc-suc, eqb·zero-suc}
+use Prim.Native.Nat.{ℕ, suc, _≤_}
+use native.Mathlib.Omega.{arith}
+use borrow.Author.Tests.{ne-eqb, eqb-true, leb-true}
+use lib.Dec.{T, eqb, leb, eqb·suc-suc, eqb·zero-suc}
 use lib.ListN.{length}
 use Rattle.scenario.specs.Lists.{among, placeIn}
 
@@ -32,3 +33,18 @@ past-the-end (y ∷ ys) x = go (eqb x y) (past-the-end ys x)
         eqb (cond b 0 (suc (placeIn ys x))) (suc (length ys)) ≡ not (b || among ys x)
     go true e = eqb·zero-suc (length ys)
     go false e = eqb·suc-suc (placeIn ys x) (length ys) ∙ e
+
+-- a number of a list is at most the greatest
+abbrev pub upTo : ℕ → List ℕ → Bool
+upTo k [] = true
+upTo k (y ∷ ys) = leb y k && upTo k ys
+
+pub at-most : (k : ℕ) (l : List ℕ) (x : ℕ) → T (upTo k l) → among l x ≡ true → x ≤ k
+at-most k [] x t e = let z : _≡_ {A = ℕ} 0 1 = cc in absurd (omega arith)
+at-most k (y ∷ ys) x t e = go (leb y k) (eqb x y) refl refl t e (at-most k ys x)
+  where
+    go : (a b : Bool) → leb y k ≡ a → eqb x y ≡ b → T (a && upTo k ys) → (b || among ys x) ≡ true →
+        (T (upTo k ys) → among ys x ≡ true → x ≤ k) → x ≤ k
+    go false b p q t e ih = absurd t
+    go true true p q t e ih = omega (arith, leb-true y k p, eqb-true x y q)
+    go true false p q t e ih = ih t e

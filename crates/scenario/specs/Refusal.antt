@@ -8,7 +8,8 @@ use Rattle.scenario.specs.Checks.{Range, _to_, beyond, _when_, _otherwis
 use Rattle.scenario.specs.Lists.{among, placeIn, _without_}
 use Rattle.scenario.specs.declared.Scenario.{Scenario}
 
--- a model's column of the table in 'The scenario'
+-- a model's column of the table in 'The scenario': magnitude in 0.01, distance in 0.01 km, velocity in 0.1 m/s, the
+-- codes of mechanisms, and the tabled periods in 0.001 s
 pub record Limits : Type 0 where
   pub magnitude : Range
   pub distance : Range
@@ -22,7 +23,7 @@ idrissPeriods =
     10 ∷ 20 ∷ 30 ∷ 40 ∷ 50 ∷ 75 ∷ 100 ∷ 150 ∷ 200 ∷ 250 ∷ 300 ∷ 400 ∷ 500 ∷ 750 ∷ 1_000 ∷ 1_500 ∷ 2_000 ∷ 3_000 ∷
     4_000 ∷ 5_000 ∷ 7_500 ∷ 10_000 ∷ []
 
--- "Idriss (model 1)"
+-- "Idriss (model 1)"; its distance is "to the rupture"
 abbrev pub idriss : Limits
 idriss =
     record {
@@ -33,7 +34,7 @@ idriss =
       periods = idrissPeriods;
     }
 
--- "Boore-Atkinson (model 2)"; it "has the same" periods "without 40"
+-- "Boore-Atkinson (model 2)"; its distance is "to its surface projection", and it "has the same" periods "without 40"
 abbrev pub booreAtkinson : Limits
 booreAtkinson =
     record {
@@ -58,11 +59,12 @@ unfoldable pub refusalOf : Scenario → ℕ
 refusalOf s =
     cond (eqb (s .model) 1) (refusalBy idriss s) (cond (eqb (s .model) 2) (refusalBy booreAtkinson s) 1)
 
--- the row of a period in Idriss's tables, which begin with 0.01 s: "Period 0 uses the row 0.01" ('Idriss')
+-- the row of a period in Idriss's tables, counted from 0 at 0.01 s: "Period 0 uses the row 0.01" ('Idriss')
 unfoldable pub idrissRow : ℕ → ℕ
 idrissRow T = placeIn (idriss .periods) (cond (eqb T 0) 10 T)
 
--- the row of a period in Boore-Atkinson's tables, which begin with peak acceleration: "Period 0 uses the row PGA"
--- ('Boore-Atkinson on rock')
+-- the row of a period in Boore-Atkinson's tables, counted from 0 at PGA, with the periods after it: "Period 0 uses the
+-- row PGA" ('Boore-Atkinson on rock'). The row PGV, which is printed before it, is left out: "Peak velocity .. lie
+-- outside it"
 unfoldable pub booreAtkinsonRow : ℕ → ℕ
 booreAtkinsonRow T = placeIn (0 ∷ booreAtkinson .periods) T

@@ -6,12 +6,19 @@ ghost use Rattle.scenario.specs.Checks.{_to_, beyond, _when_, _otherwise
 ghost use Rattle.scenario.specs.Lists.{among};
 ghost use Rattle.scenario.specs.Refusal.{idriss, booreAtkinson, refusalBy, refusalOf, idrissRow, booreAtkinsonRow};
 
+// The fields of document 01, 'The scenario', as whole numbers.
 pub struct Scenario {
+    // 1 Idriss, 2 Boore-Atkinson
     pub model: u8,
+    // in 0.01
     pub magnitude: u16,
+    // in 0.01 km: to the rupture for Idriss, to its surface projection for Boore-Atkinson
     pub distance: u16,
+    // V_S30, in 0.1 m/s
     pub velocity: u16,
+    // 0 strike-slip, 1 normal, 2 reverse, 3 reverse oblique, 4 other oblique, 9 unspecified
     pub mechanism: u8,
+    // in 0.001 s; 0 is peak acceleration
     pub period: u16,
 }
 

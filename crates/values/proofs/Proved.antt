@@ -14,8 +14,8 @@ use Rattle.exact.specs.Formula.{Formula, stated, ln, root, _⊕_, _⊖_, _⊗_,
 use Rattle.exact.proofs.FractionLaws.{≤q-antisym}
 use Rattle.exact.proofs.Tests.{and-left, and-right, every, every-at}
 use Rattle.scenario.specs.Refusal.{refusalBy, refusalOf}
-use Rattle.record.specs.Layout.{sizeOf, numbersOf, defaultWritten}
-use Rattle.record.specs.Outcome.{readingValues, scenarioIn, lengthBy, mapRefusal, readRefusal, readOf}
+use Rattle.record.specs.Layout.{sizeOf, numbersOf, absentWritten}
+use Rattle.record.specs.Outcome.{readingNumber, readingValues, scenarioIn, lengthBy, mapRefusal, readRefusal, readOf}
 use Rattle.values.specs.Table.{Check, pairAt, lnAtEvery, fraction, reads, HasEnds, Holds, AllHold, values}
 
 -- ---- the test of a row
@@ -44,7 +44,7 @@ unfoldable passes : Check → Bool
 passes (pairAt n e x y) = (leb 1 n && sound n e) && (same (eval n e .low) x && same (eval n e .high) y)
 passes (lnAtEvery a b x y) = (leb 1 a && eqb a b) && (same zeroQ x && same zeroQ y)
 passes (fraction x y) = same x y
-passes (reads s xs) = sameList (readingValues (readOf s)) xs
+passes (reads s xs) = eqb (readingNumber (readOf s)) 0 && sameList (readingValues (readOf s)) xs
 
 -- ---- and what it shows
 
@@ -108,13 +108,15 @@ holds (lnAtEvery a b x y) t =
     let s : 1 ≤ a = leb→le 1 a (v .0) in
     λ n h. rw (← (eqb→eq a b (v .1))) ((s, s), ln-same a n (same-is (w .0)) (same-is (w .1)))
 holds (fraction x y) t = same-is t
-holds (reads s xs) t = same-list (readingValues (readOf s)) xs t
+holds (reads s xs) t =
+    let u = both (eqb (readingNumber (readOf s)) 0) (sameList (readingValues (readOf s)) xs) t in
+    (eqb→eq (readingNumber (readOf s)) 0 (u .0), same-list (readingValues (readOf s)) xs (u .1))
 
 -- ---- all of them
 
 all-pass : T (every (λ k c. passes c) 0 values)
 unfolding passes sound same sameList eval lnPair lowerSum upperSum harmonic rootPair rootValues wholeRoot greatest leQ
-    zeroQ negQ _+q_ _over_ readOf readRefusal mapRefusal scenarioIn lengthBy numbersOf sizeOf defaultWritten refusalOf
+    zeroQ negQ _+q_ _over_ readOf readRefusal mapRefusal scenarioIn lengthBy numbersOf sizeOf absentWritten refusalOf
     refusalBy
 all-pass = tt
 

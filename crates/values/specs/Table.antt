@@ -6,7 +6,7 @@ use lib.IntN.{pos}
 use lib.ListN.{length, getD}
 use Rattle.exact.specs.Fraction.{Fraction, _over_, zeroQ, _≈q_}
 use Rattle.exact.specs.Pair.{Pair}
-use Rattle.record.specs.Outcome.{readingValues, readOf}
+use Rattle.record.specs.Outcome.{readingNumber, readingValues, readOf}
 use Rattle.exact.specs.Formula.{Formula, ln, root, eval, Defined}
 
 -- a row
@@ -30,7 +30,7 @@ unfoldable pub Holds : Check → Type 0
 Holds (pairAt n e x y) = (1 ≤ n) × Defined n e × HasEnds (eval n e) x y
 Holds (lnAtEvery a b x y) = (n : ℕ) → 1 ≤ n → Defined n (ln a b) × HasEnds (eval n (ln a b)) x y
 Holds (fraction x y) = x ≈q y
-Holds (reads s xs) = readingValues (readOf s) ≡ xs
+Holds (reads s xs) = (readingNumber (readOf s) ≡ 0) × (readingValues (readOf s) ≡ xs)
 
 -- the rows, in document 01's order
 abbrev pub values : List Check

@@ -1,7 +1,7 @@
 -- `probe_write` meets its contract.
 use mathlib.Core.Path.{_≡_, refl}
 use borrow.Author.Needs.{needs}
-use Rattle.record.specs.declared.Written.the-variants as W
+use Rattle.record.specs.declared.Writing.the-variants as W
 use Rattle.record.specs.Outcome.{writeOf}
 use Rattle.probe.specs.Probe.{scenarioFrom, probedWriting}
 use Rattle.probe.proofs.probe_write.Statement.{statement}

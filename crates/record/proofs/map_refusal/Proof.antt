@@ -5,16 +5,16 @@ use Rattle.record.proofs.MapLaws.{map-checked}
 use Rattle.record.proofs.map_refusal.Statement.{statement}
 use Rattle.record.proofs.map_refusal.Tie as tie
 
-spare : tie.Need-returns
-spare c = simp (le-leb _ _ (c .if1 .taken)) at (map-checked (c .before .args .m) (omega arith))
+bit-6-or-7 : tie.Need-returns
+bit-6-or-7 c = simp (le-leb _ _ (c .if1 .taken)) at (map-checked (c .before .args .m) (omega arith))
 
-wanting : tie.Need-returns-2
-wanting c =
+bit-clear : tie.Need-returns-2
+bit-clear c =
     simp (lt-leb _ _ (c .before .if1 .left), ne-eqb _ _ (c .if2 .taken)) at
     (map-checked (c .before .before .args .m) (omega arith))
 
-blank : tie.Need-returns-3
-blank c =
+no-bit : tie.Need-returns-3
+no-bit c =
     simp (lt-leb _ _ (c .before .before .if1 .left), eq-eqb _ _ (c .before .if2 .left), eq-eqb _ _ (c .if3 .taken)) at
     (map-checked (c .before .before .before .args .m) (omega arith))
 
@@ -24,4 +24,4 @@ passes c =
     (map-checked (c .before .before .before .args .m) (omega arith))
 
 pub map-refusal-spec : {M : Type 1} → statement M
-map-refusal-spec = tie.close (tie.spec spare wanting blank passes)
+map-refusal-spec = tie.close (tie.spec bit-6-or-7 bit-clear no-bit passes)

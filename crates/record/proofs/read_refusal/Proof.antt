@@ -35,7 +35,7 @@ written-out c =
     let some = ne-eqb _ _ (k .before .before .if1 .left) in
     let passes = sym (k .map-refusal .ensures) ∙ n .before .if2 .left in
     let room = le-ltb _ _ (x .before .if3 .left) in
-    let apart = sym (c .before .default-written .ensures) ∙ c .if4 .taken in
+    let apart = sym (c .before .absent-written .ensures) ∙ c .if4 .taken in
     simp (some, passes, sym (n .record-length .ensures), room, sym (x .fields .ensures), apart)
 
 by-fields : tie.Need-returns-5
@@ -48,7 +48,7 @@ by-fields c =
     let some = ne-eqb _ _ (k .before .before .if1 .left) in
     let passes = sym (k .map-refusal .ensures) ∙ n .before .if2 .left in
     let room = le-ltb _ _ (x .before .if3 .left) in
-    let apart = sym (d .default-written .ensures) ∙ c .before .if4 .left in
+    let apart = sym (d .absent-written .ensures) ∙ c .before .if4 .left in
     simp (some, passes, sym (n .record-length .ensures), room, sym (x .fields .ensures), apart) (c .refusal .ensures)
 
 pub read-refusal-spec : {M : Type 1} → statement M

@@ -4,7 +4,7 @@ use Prim.Native.Nat.{_≤_}
 use native.Mathlib.Omega.{arith}
 use borrow.Author.Needs.{needs}
 use lib.ListN.{length}
-use Rattle.record.specs.declared.Written.the-variants as W
+use Rattle.record.specs.declared.Writing.the-variants as W
 use Rattle.record.specs.Layout.{recordOf}
 use Rattle.record.specs.Outcome.{writeOf, WritePromise}
 use Rattle.record.proofs.Agreement.{written-agrees}
@@ -24,8 +24,8 @@ refused c =
 map-passes : tie.Need-record-length-requires
 map-passes c κs = rw (c .map-byte .ensures) (written-agrees (c .before .before .before .before .args .x) .0)
 
-full : tie.Need-returns-2
-full c =
+too-few : tie.Need-returns-2
+too-few c =
     let n = c .before in
     let m = n .before in
     let k = m .before .before in
@@ -79,7 +79,7 @@ write-spec =
     refused
     (λ c κs. search needs)
     map-passes
-    full
+    too-few
     head-fits
     tail-fits
     (λ c. search needs)
