@@ -1,13 +1,15 @@
 -- Where the fields of a record stand whose map passes.
 use mathlib.Core.Path.{_≡_, refl, ap, _∙_}
-use mathlib.Core.Bool.{cond}
+use mathlib.Core.Bool.{Bool, cond, _&&_, _||_, or-false}
 use mathlib.Core.List.{List, [], _∷_}
 use Prim.Native.Nat.{ℕ, _+_, _*_}
 use native.Mathlib.Nat.{add-zero}
 use native.Mathlib.Omega.{arith}
+use lib.Dec.{eqb}
 use lib.ListN.{getD, take, drop}
 use lib.Seq.{drop-drop, getD-drop}
-use Rattle.record.specs.Layout.{Field, layout, absentNumber, stands, numberOf, sizeOf, numbersOf}
+use Rattle.scenario.specs.declared.Scenario.{Scenario}
+use Rattle.record.specs.Layout.{absentWritten, Field, layout, absentNumber, stands, numberOf, sizeOf, numbersOf}
 use Rattle.record.specs.Outcome.{mapIn, scenarioIn, lengthBy, mapRefusal}
 use Rattle.record.proofs.MapLaws.{passed}
 
@@ -72,3 +74,10 @@ byte-at s at = front-byte (drop at s) ∙ (getD-drop at s 0 0 ∙ ap (λ (i : �
 
 pub word-at : (s : List ℕ) (at : ℕ) → numberAt 2 at s ≡ getD s at 0 + 256 * getD s (at + 1) 0
 word-at s at = rw (front-word (drop at s), getD-drop at s 0 0, getD-drop at s 1 0, add-zero at)
+
+-- a field that stands with its absent number, one of three
+pub absent-written-is : (m : ℕ) (x : Scenario) {r a b c : Bool} → r ≡ (a || (b || c)) →
+    a ≡ (eqb (x .velocity) 7_600 && stands 3 m) → b ≡ (eqb (x .mechanism) 9 && stands 4 m) →
+    c ≡ (eqb (x .period) 0 && stands 5 m) → r ≡ absentWritten layout m x
+unfolding absentWritten
+absent-written-is m x e a b c = rw (e, a, b, c, or-false)

@@ -33,7 +33,10 @@ fits c =
 
 starts : tie.Need-part-result-start
 starts c =
-    let h : c .record-length .result ≤ length (c .before .before .before .before .before .args .s .now) = fits c in
+    let k = c .before .before .before in
+    let a = accepted _ (sym (k .read-refusal .ensures) ∙ c .before .before .if1 .left) in
+    let h : c .record-length .result ≤ length (k .before .before .args .s .now) =
+    omega (arith, a .room, c .record-length .ensures) in
     search needs
 
 returns : tie.Need-returns-2
