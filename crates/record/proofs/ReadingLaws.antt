@@ -14,7 +14,7 @@ use Rattle.scenario.proofs.CheckLaws.{none-of, not-when, is-refused}
 use Rattle.record.specs.declared.Reading.the-variants.{Read, Refused}
 use Rattle.record.specs.Layout.{layout, absentWritten}
 use Rattle.record.specs.Outcome.{mapIn, scenarioIn, lengthBy, mapRefusal}
-use Rattle.record.specs.Outcome.{readRefusal, readOf, restOf, ReadPromise}
+use Rattle.record.specs.Outcome.{readRefusal, readOf, restAt, restOf, ReadPromise}
 
 -- s passes every check of reading
 pub record Accepted (s : List ℕ) : Type 0 where
@@ -40,6 +40,14 @@ accepted s e =
       apart = not-when 10 _ (d .0);
       taken = d .1;
     }
+
+pub no-place : (s : List ℕ) → (readRefusal s ≡ 0 → ⊥) → restAt s ≡ 0
+unfolding restAt
+no-place s h = sym (is-refused (readRefusal s) (lengthBy (mapIn s)) 0 h)
+
+pub place-is : (s : List ℕ) → readRefusal s ≡ 0 → restAt s ≡ lengthBy (mapIn s)
+unfolding restAt
+place-is s e = rw e refl
 
 pub no-rest : (s : List ℕ) → (readRefusal s ≡ 0 → ⊥) → [] ≡ restOf s
 unfolding restOf

@@ -48,6 +48,10 @@ readRefusal s =
 unfoldable pub readOf : List ℕ → Reading
 readOf s = unlessRefused (readRefusal s) (R.Read (scenarioIn s) (lengthBy (mapIn s))) (R.Refused (readRefusal s))
 
+-- where the rest begins, counted from the first byte
+unfoldable pub restAt : List ℕ → ℕ
+restAt s = unlessRefused (readRefusal s) (lengthBy (mapIn s)) 0
+
 -- "the rest of the caller's bytes"; "a refused read hands back none of the bytes"
 unfoldable pub restOf : List ℕ → List ℕ
 restOf s = unlessRefused (readRefusal s) (drop (lengthBy (mapIn s)) s) []

@@ -6,8 +6,9 @@ ghost use Prim.Native.Nat.{_+_, _≤_, _<_};
 ghost use lib.ListN.{length, take, drop};
 ghost use lib.Seq.{sets};
 ghost use mathlib.Core.Option.{some};
+ghost use denote.Ref.{ptr};
 ghost use Rattle.record.specs.Layout.{layout, numberOf, absentWritten, mapOf, partOf, partsOf};
-ghost use Rattle.record.specs.Outcome.{mapIn, scenarioIn, lengthBy, mapRefusal, readRefusal, readOf, restOf, ReadPromise};
+ghost use Rattle.record.specs.Outcome.{mapIn, scenarioIn, lengthBy, mapRefusal, readRefusal, readOf, restAt, restOf, ReadPromise};
 ghost use Rattle.record.specs.Outcome.{writeOf, lentAfter, WritePromise};
 ghost use Rattle.record.specs.Steps.{Put};
 use scenario::Scenario;
@@ -185,9 +186,11 @@ pub fn read(s: &[u8]) -> Reading
     Reading::Read(x, n)
 }
 
-// The part of s after the record that is read at its front; of a refused read none.
+// The part of s after the record that is read at its front, none of a refused read: its bytes, and that it lies in s, so
+// many bytes after its start.
 pub fn rest(s: &[u8]) -> &[u8]
     ensures { λ r. ⌜ now r ≡ restOf (now (s .entry)) ⌝ }
+    ensures { λ r. ⌜ ptr r ≡ (ptr (s .entry) .0, restAt (now (s .entry)) + ptr (s .entry) .1) ⌝ }
 {
     if read_refusal(s) != 0 {
         return &s[..0];

@@ -10,7 +10,7 @@ unfolding probedReading
 read c =
     let r = c .before .before .before in
     let b = r .before in
-    simp (sym (r .read .ensures .0) ∙ c .before .x .given .1, sym (b .before .rest .ensures), sym (b .byte-at .ensures))
+    simp (sym (r .read .ensures .0) ∙ c .before .x .given .1, sym (b .before .rest .ensures .0), sym (b .byte-at .ensures))
 
 refused : tie.Need-returns-2
 unfolding probedReading
@@ -18,7 +18,7 @@ refused c =
     let r = c .before .before .before in
     let b = r .before in
     simp
-    (sym (r .read .ensures .0) ∙ c .before .number .given .1, sym (b .before .rest .ensures), sym (b .byte-at .ensures))
+    (sym (r .read .ensures .0) ∙ c .before .number .given .1, sym (b .before .rest .ensures .0), sym (b .byte-at .ensures))
 
 pub probe-read-spec : {M : Type 1} → statement M
 probe-read-spec =
