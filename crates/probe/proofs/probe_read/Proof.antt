@@ -10,15 +10,16 @@ unfolding probedReading
 read c =
     let r = c .before .before .before in
     let b = r .before in
-    simp (sym (r .read .ensures .0) ∙ c .before .x .given .1, sym (b .before .rest .ensures .0), sym (b .byte-at .ensures))
+    let answer = sym (r .read .ensures .0) ∙ c .before .x .given .1 in
+    simp (answer, sym (b .before .rest .ensures .0), sym (b .byte-at .ensures))
 
 refused : tie.Need-returns-2
 unfolding probedReading
 refused c =
     let r = c .before .before .before in
     let b = r .before in
-    simp
-    (sym (r .read .ensures .0) ∙ c .before .number .given .1, sym (b .before .rest .ensures .0), sym (b .byte-at .ensures))
+    let answer = sym (r .read .ensures .0) ∙ c .before .number .given .1 in
+    simp (answer, sym (b .before .rest .ensures .0), sym (b .byte-at .ensures))
 
 pub probe-read-spec : {M : Type 1} → statement M
 probe-read-spec =
