@@ -24,11 +24,14 @@ outside: probe
 	python3 tests/test_logarithm.py $(PROBE)
 	python3 tests/test_records.py $(PROBE)
 
-# A program over the proved library, for the tests.
+# A program over the proved libraries, for the tests.
 probe: need
 	mkdir -p target/tests
-	rt staticlib probe > target/tests/probe.log 2>&1 || { cat target/tests/probe.log; exit 1; }
-	$(CC) -O2 -Wall -Wextra -Werror -std=c99 -o $(PROBE) tests/probe.c target/staticlib/libprobe.a
+	for library in probe record_probe; do \
+	    rt staticlib $$library > target/tests/$$library.log 2>&1 || { cat target/tests/$$library.log; exit 1; }; \
+	done
+	$(CC) -O2 -Wall -Wextra -Werror -std=c99 -o $(PROBE) tests/probe.c \
+	    target/staticlib/libprobe.a target/staticlib/librecord_probe.a
 
 need:
 	tools/need

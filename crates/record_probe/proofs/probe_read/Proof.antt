@@ -1,9 +1,9 @@
 -- `probe_read` meets its contract.
 use mathlib.Core.Path.{sym, _∙_}
 use borrow.Author.Needs.{needs}
-use Rattle.probe.specs.Probe.{probedReading}
-use Rattle.probe.proofs.probe_read.Statement.{statement}
-use Rattle.probe.proofs.probe_read.Tie as tie
+use Rattle.record_probe.specs.Probe.{probedReading}
+use Rattle.record_probe.proofs.probe_read.Statement.{statement}
+use Rattle.record_probe.proofs.probe_read.Tie as tie
 
 read : tie.Need-returns
 unfolding probedReading

@@ -2,8 +2,8 @@
 use mathlib.Core.Path.{sym}
 use borrow.Author.Needs.{needs}
 use lib.ListN.{List·getD-eq-default}
-use Rattle.probe.proofs.byte_at.Statement.{statement}
-use Rattle.probe.proofs.byte_at.Tie as tie
+use Rattle.record_probe.proofs.byte_at.Statement.{statement}
+use Rattle.record_probe.proofs.byte_at.Tie as tie
 
 pub byte-at-spec : {M : Type 1} → statement M
 byte-at-spec =

@@ -1,8 +1,8 @@
 -- `probe_row` meets its contract.
 use borrow.Author.Needs.{needs}
 use borrow.Author.Tests.{eq-eqb, ne-eqb}
-use Rattle.probe.proofs.probe_row.Statement.{statement}
-use Rattle.probe.proofs.probe_row.Tie as tie
+use Rattle.record_probe.proofs.probe_row.Statement.{statement}
+use Rattle.record_probe.proofs.probe_row.Tie as tie
 
 pub probe-row-spec : {M : Type 1} → statement M
 probe-row-spec =

@@ -3,9 +3,9 @@ use mathlib.Core.Path.{_≡_, refl}
 use borrow.Author.Needs.{needs}
 use Rattle.record.specs.declared.Writing.the-variants as W
 use Rattle.record.specs.Outcome.{writeOf}
-use Rattle.probe.specs.Probe.{scenarioFrom, probedWriting}
-use Rattle.probe.proofs.probe_write.Statement.{statement}
-use Rattle.probe.proofs.probe_write.Tie as tie
+use Rattle.record_probe.specs.Probe.{scenarioFrom, probedWriting}
+use Rattle.record_probe.proofs.probe_write.Statement.{statement}
+use Rattle.record_probe.proofs.probe_write.Tie as tie
 
 written : tie.Need-returns
 unfolding probedWriting
