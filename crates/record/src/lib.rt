@@ -25,6 +25,13 @@ pub enum Writing {
     Refused(u8),
 }
 
+// The numbers of fields that are absent.
+const VELOCITY: u16 = 7_600;
+
+const MECHANISM: u8 = 9;
+
+const PERIOD: u16 = 0;
+
 // n, and k more where b holds.
 fn more_if(n: usize, b: bool, k: usize) -> usize
     requires { ⌜ n + k < 256 ⌝ }
@@ -113,9 +120,9 @@ fn fields(s: &[u8]) -> Scenario
         model: byte(s, 1),
         magnitude: word(s, 2),
         distance: word(s, 4),
-        velocity: word_or(s, velocity, 6, 7_600),
-        mechanism: byte_or(s, mechanism, mechanism_at, 9),
-        period: word_or(s, period, period_at, 0),
+        velocity: word_or(s, velocity, 6, VELOCITY),
+        mechanism: byte_or(s, mechanism, mechanism_at, MECHANISM),
+        period: word_or(s, period, period_at, PERIOD),
     }
 }
 
@@ -145,9 +152,9 @@ fn absent_written(m: u8, x: Scenario) -> bool
     ensures { λ r. ⌜ r ≡ absentWritten layout m x ⌝ }
 {
     any(
-        both(x.velocity == 7_600, m / 8 % 2 == 1),
-        both(x.mechanism == 9, m / 16 % 2 == 1),
-        both(x.period == 0, m / 32 % 2 == 1),
+        both(x.velocity == VELOCITY, m / 8 % 2 == 1),
+        both(x.mechanism == MECHANISM, m / 16 % 2 == 1),
+        both(x.period == PERIOD, m / 32 % 2 == 1),
     )
 }
 
@@ -173,6 +180,7 @@ fn read_refusal(s: &[u8]) -> u8
     scenario::refusal(x)
 }
 
+// Reads the record at the front of s.
 pub fn read(s: &[u8]) -> Reading
     ensures { λ r. ⌜ r ≡ readOf (now (s .entry)) ⌝ }
     ensures { λ r. ⌜ ReadPromise (now (s .entry)) r ⌝ }
@@ -203,9 +211,9 @@ pub fn rest(s: &[u8]) -> &[u8]
 fn map_byte(x: Scenario) -> u8
     ensures { λ r. ⌜ r ≡ mapOf layout x ⌝ }
 {
-    let velocity = more_if(7, x.velocity != 7_600, 8);
-    let mechanism = more_if(velocity, x.mechanism != 9, 16);
-    more_if(mechanism, x.period != 0, 32) as u8
+    let velocity = more_if(7, x.velocity != VELOCITY, 8);
+    let mechanism = more_if(velocity, x.mechanism != MECHANISM, 16);
+    more_if(mechanism, x.period != PERIOD, 32) as u8
 }
 
 // Puts a field of one byte at a place, unless it has its absent number, and answers the place after it.
@@ -251,12 +259,12 @@ fn put_tail(x: Scenario, out: &mut [u8])
     requires { ⌜ 6 + length (partsOf (drop 3 layout) x) ≤ length (now out) ⌝ }
     ensures { λ _. ⌜ now (out .exit) ≡ sets (now (out .entry)) 6 (partsOf (drop 3 layout) x) ⌝ }
 {
-    let mechanism_at = put_word(out, 6, x.velocity, 7_600);
-    let period_at = put_byte(out, mechanism_at, x.mechanism, 9);
-    put_word(out, period_at, x.period, 0);
+    let mechanism_at = put_word(out, 6, x.velocity, VELOCITY);
+    let period_at = put_byte(out, mechanism_at, x.mechanism, MECHANISM);
+    put_word(out, period_at, x.period, PERIOD);
 }
 
-// Puts the record of x at the front of out and answers its length.
+// Puts the record of x at the front of out; where it is turned away, out is not touched.
 pub fn write(x: Scenario, out: &mut [u8]) -> Writing
     ensures { λ r. ⌜ r ≡ writeOf x (now (out .entry)) ⌝ }
     ensures { λ r. ⌜ WritePromise x (now (out .entry)) r ⌝ }
