@@ -12,18 +12,17 @@ always sent.
 import math
 import random
 import re
-import subprocess
 import sys
 from collections import Counter
 from decimal import Decimal
 from fractions import Fraction
 from typing import NamedTuple, Tuple
 
+from ask import ask
 from exact import Pair, ln_pair, meets, root_pair, true_ln
 
 SEED = 20240117
 COUNT = 20000
-SECONDS = 600
 
 # Document 01: "One unit is 10^-9 of a natural logarithm."
 UNITS = 10 ** 9
@@ -455,23 +454,6 @@ def fault(case, answer):
     return check(*case.arguments, *numbers)
 
 
-def ask(probe, cases):
-    """Send all cases to the probe; return its lines and its own faults."""
-    text = ''.join(case.line() + '\n' for case in cases)
-    try:
-        done = subprocess.run([probe], input=text, capture_output=True,
-                              text=True, timeout=SECONDS, check=False)
-    except (OSError, ValueError, subprocess.SubprocessError) as error:
-        return [], [f'the probe could not be run: {error}']
-    lines = done.stdout.splitlines()
-    faults = []
-    if done.returncode != 0:
-        faults.append(f'the probe ended with status {done.returncode}')
-    if len(lines) != len(cases):
-        faults.append(f'{len(cases)} lines sent, {len(lines)} received')
-    return lines, faults
-
-
 def check_all(cases, lines):
     """Return a message for each answer that is wrong."""
     faults = []
@@ -518,7 +500,7 @@ def run(probe, count):
     """Check the probe; return the exit status."""
     cases = make_cases(count)
     print(f'seed {SEED}, {len(cases)} inputs')
-    lines, faults = ask(probe, cases)
+    lines, faults = ask(probe, [case.line() for case in cases])
     faults += check_all(cases, lines)
     print_kinds(cases, lines)
     print_widths(widths(cases, lines))

@@ -14,17 +14,16 @@ COUNT is how many questions are drawn besides the fixed ones, 20,000 unless give
 """
 
 import random
-import subprocess
 import sys
 from collections import Counter
 from itertools import combinations
 from typing import NamedTuple, Optional
 
+from ask import ask
 from records import Scenario, read, record, refusal, row, write
 
 COUNT = 20000
 SEED = 20080214
-SECONDS = 600
 FAILURES_SHOWN = 10
 
 
@@ -583,23 +582,6 @@ def check_rules(asked, answers):
 # The probe
 # ---------------------------------------------------------------------------
 
-def ask(probe, asked):
-    """Send all questions to the probe; return its lines and its own faults."""
-    sent = ''.join(question.line + '\n' for question in asked).encode('ascii')
-    try:
-        done = subprocess.run([probe], input=sent, stdout=subprocess.PIPE, timeout=SECONDS, check=False)
-    except (OSError, subprocess.SubprocessError) as error:
-        return [], [f'the probe could not be run: {error}']
-    # The last line has an end, too.
-    *lines, after = done.stdout.decode('ascii', 'backslashreplace').split('\n')
-    faults = []
-    if done.returncode != 0:
-        faults.append(f'the probe ended with status {done.returncode}')
-    if len(lines) != len(asked) or after:
-        faults.append(f'{len(asked)} lines sent, {len(lines)} received, and {len(after)} characters after them')
-    return lines, faults
-
-
 def check_probe(asked, answers, lines):
     """Return a message for each line that is not the expected one."""
     return [f'{question.line}: expected {expected}, got {line} ({question.kind})'
@@ -621,7 +603,7 @@ def run(probe, count, seed):
     faults = check_rules(asked, answers)
     if faults:
         return fail(faults)
-    lines, faults = ask(probe, asked)
+    lines, faults = ask(probe, [question.line for question in asked])
     faults += check_probe(asked, answers, lines)
     if faults:
         return fail(faults)
