@@ -13,7 +13,7 @@ use Rattle.record.specs.Layout.{absentWritten, Field, layout, absentNumb
 use Rattle.record.specs.Outcome.{mapIn, scenarioIn, lengthBy, mapRefusal}
 use Rattle.record.proofs.MapLaws.{passed}
 
--- the place after the velocity, after the mechanism and after the period
+-- where the mechanism and the period stand
 abbrev pub mechanismAt : ℕ → ℕ
 mechanismAt m = 6 + cond (stands 3 m) 2 0
 

@@ -1,6 +1,6 @@
 -- Facts about map bytes. What holds of every byte is one test that antt computes over all 256.
 use mathlib.Core.Path.{_≡_, refl, _∙_}
-use mathlib.Core.Bool.{Bool, true, false, not, cond, _&&_, _||_}
+use mathlib.Core.Bool.{true≢false, Bool, true, false, not, cond, _&&_, _||_}
 use mathlib.Core.List.{List, [], _∷_}
 use Prim.Native.Nat.{ℕ, zero, suc, _+_, _%_, _^_, _<_}
 use native.Mathlib.Nat.{not-suc-le-zero}
@@ -64,7 +64,7 @@ module _ (m : ℕ) (h : m < 256) where
       (rw (lt-leb 64 m l) at
       (both (eqb (checked m) (mapRefusal m)) (leb 64 m || eqb (rebuilt layout m) m) (below 256 right all-right m h) .1))
 
--- ---- a map that passes: the bits of the fields that always stand do, and the spare ones do not
+-- ---- a map that passes: the bits of the fields that are never absent stand, and it is below 64
 
 pub record Passed (m : ℕ) : Type 0 where
   pub model : stands 0 m ≡ true
@@ -80,9 +80,9 @@ passed m e =
   where
     go : (a b c : Bool) → stands 0 m ≡ a → stands 1 m ≡ b → stands 2 m ≡ c → not (a && (b && c)) ≡ false → Passed m
     go true true true p q r e = record { model = p; magnitude = q; distance = r }
-    go true true false p q r e = let z : _≡_ {A = ℕ} 0 1 = cc in absurd (omega arith)
-    go true false c p q r e = let z : _≡_ {A = ℕ} 0 1 = cc in absurd (omega arith)
-    go false b c p q r e = let z : _≡_ {A = ℕ} 0 1 = cc in absurd (omega arith)
+    go true true false p q r e = absurd (true≢false e)
+    go true false c p q r e = absurd (true≢false e)
+    go false b c p q r e = absurd (true≢false e)
 
 pub map-small : (m : ℕ) → m < 256 → mapRefusal m ≡ 0 → m < 64
 map-small m h e = leb-false 64 m (not-when 7 _ (none-of (8 when leb 64 m) _ (map-checked m h ∙ e) .0))

@@ -1,6 +1,6 @@
 -- Reading undoes writing: the record of an accepted scenario is read as that scenario, and what follows it is the rest.
 use mathlib.Core.Path.{_≡_, refl, sym, ap, _∙_}
-use mathlib.Core.Bool.{Bool, true, false, not, cond}
+use mathlib.Core.Bool.{false≢true, Bool, true, false, not, cond}
 use mathlib.Core.List.{List, [], _∷_, _++_, map, append-assoc}
 use mathlib.Core.Option.{Option, none, some}
 use Prim.Native.Nat.{ℕ, zero, suc, _≤_}
@@ -29,7 +29,7 @@ layout-wide : Wide layout
 layout-wide = (search needs, (search needs, (search needs, (search needs, (search needs, (search needs, tt))))))
 
 absent-is : (o : Option ℕ) (v : ℕ) → isAbsent o v ≡ true → absentNumber o ≡ v
-absent-is none v e = let z : _≡_ {A = ℕ} 0 1 = cc in absurd (omega arith)
+absent-is none v e = absurd (false≢true e)
 absent-is (some d) v e = sym (eqb-true v d e)
 
 number-front : (w v : ℕ) (s : List ℕ) → 1 ≤ w → numberOf (take w (bytesOf w v ++ s)) ≡ v

@@ -1,6 +1,6 @@
 -- Writing undoes reading: the record of a scenario that is read is what it was read from.
 use mathlib.Core.Path.{_≡_, refl, sym, _∙_}
-use mathlib.Core.Bool.{Bool, true, false, not, cond, _&&_, _||_}
+use mathlib.Core.Bool.{true≢false, false≢true, Bool, true, false, not, cond, _&&_, _||_}
 use mathlib.Core.List.{List, [], _∷_, map}
 use mathlib.Core.Option.{Option, none, some}
 use Prim.Native.Nat.{ℕ, _+_, _≤_, _<_}
@@ -39,7 +39,7 @@ or-left true b e = e
 or-left false b e = refl
 
 or-right : (a b : Bool) → (a || b) ≡ false → b ≡ false
-or-right true b e = let z : _≡_ {A = ℕ} 0 1 = cc in absurd (omega arith)
+or-right true b e = absurd (true≢false e)
 or-right false b e = e
 
 and-true : (a : Bool) → (a && true) ≡ false → a ≡ false
@@ -55,7 +55,7 @@ kept : (w : ℕ) (o : Option ℕ) (v : ℕ) (b : Bool) (s : List ℕ) →
 kept w o v true s e a r h l =
     let z : isAbsent o v ≡ false = and-true (isAbsent o v) a in
     (rw z refl, rw (z, ← e) (bytes-back w s h l))
-kept w none v false s e a r h l = let z : _≡_ {A = ℕ} 0 1 = cc in absurd (omega arith)
+kept w none v false s e a r h l = absurd (false≢true r)
 kept w (some d) v false s e a r h l =
     let z : eqb v d ≡ true = eq-eqb v d (sym e) in
     (rw z refl, rw z refl)

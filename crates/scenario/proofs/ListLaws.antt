@@ -1,6 +1,6 @@
 -- Laws of a search through a list, for any list.
 use mathlib.Core.Path.{_≡_, refl, ap, _∙_}
-use mathlib.Core.Bool.{Bool, true, false, not, _&&_, _||_, cond}
+use mathlib.Core.Bool.{false≢true, Bool, true, false, not, _&&_, _||_, cond}
 use mathlib.Core.List.{List, [], _∷_}
 use Prim.Native.Nat.{ℕ, suc, _≤_}
 use native.Mathlib.Omega.{arith}
@@ -40,7 +40,7 @@ upTo k [] = true
 upTo k (y ∷ ys) = leb y k && upTo k ys
 
 pub at-most : (k : ℕ) (l : List ℕ) (x : ℕ) → T (upTo k l) → among l x ≡ true → x ≤ k
-at-most k [] x t e = let z : _≡_ {A = ℕ} 0 1 = cc in absurd (omega arith)
+at-most k [] x t e = absurd (false≢true e)
 at-most k (y ∷ ys) x t e = go (leb y k) (eqb x y) refl refl t e (at-most k ys x)
   where
     go : (a b : Bool) → leb y k ≡ a → eqb x y ≡ b → T (a && upTo k ys) → (b || among ys x) ≡ true →

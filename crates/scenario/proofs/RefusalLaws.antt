@@ -1,6 +1,6 @@
 -- The checks of a program are those of a model's column, one by one; and what a scenario that is not refused is like.
 use mathlib.Core.Path.{_≡_, refl}
-use mathlib.Core.Bool.{Bool, true, false, not, cond, _||_}
+use mathlib.Core.Bool.{true≢false, Bool, true, false, not, cond, _||_}
 use mathlib.Core.List.{_∷_}
 use mathlib.Core.Logic.{_⊎_, inl, inr}
 use Prim.Native.Nat.{ℕ, _≤_}
@@ -38,8 +38,8 @@ not-beyond : (r : Range) (x : ℕ) → beyond r x ≡ false → (r .low ≤ x) �
 not-beyond r x e = go (ltb x (r .low)) (ltb (r .high) x) refl refl e
   where
     go : (a b : Bool) → ltb x (r .low) ≡ a → ltb (r .high) x ≡ b → (a || b) ≡ false → (r .low ≤ x) × (x ≤ r .high)
-    go true b p q e = let z : _≡_ {A = ℕ} 0 1 = cc in absurd (omega arith)
-    go false true p q e = let z : _≡_ {A = ℕ} 0 1 = cc in absurd (omega arith)
+    go true b p q e = absurd (true≢false e)
+    go false true p q e = absurd (true≢false e)
     go false false p q e = (ltb-false x (r .low) p, ltb-false (r .high) x q)
 
 pub within : (m : Limits) (s : Scenario) → refusalBy m s ≡ 0 → Within m s
