@@ -63,7 +63,7 @@ stands k m = eqb (m / 2 ^ k % 2) 1
 abbrev pub Bytes : List ℕ → Type 0
 Bytes s = (i : ℕ) → getD s i 0 < 256
 
--- the number of bytes, "Low byte first"
+-- the number that bytes make, "Low byte first"
 abbrev pub numberOf : List ℕ → ℕ
 numberOf [] = 0
 numberOf (b ∷ bs) = b + 256 * numberOf bs

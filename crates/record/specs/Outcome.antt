@@ -45,6 +45,7 @@ readRefusal s =
     11 when absentWritten layout (mapIn s) (scenarioIn s) otherwise
     refusalOf (scenarioIn s)
 
+-- "Reading hands back the scenario", with its record's length, or the number
 unfoldable pub readOf : List ℕ → Reading
 readOf s = unlessRefused (readRefusal s) (R.Read (scenarioIn s) (lengthBy (mapIn s))) (R.Refused (readRefusal s))
 
@@ -90,6 +91,7 @@ writeOf x lent =
 unfoldable pub lentAfter : Scenario → List ℕ → List ℕ
 lentAfter x lent = unlessRefused (writeRefusal x lent) (recordOf x ++ drop (length (recordOf x)) lent) lent
 
+-- the number and the values of each case, as of a reading
 abbrev pub writingNumber : Writing → ℕ
 writingNumber (W.Length n) = 0
 writingNumber (W.Refused k) = k

@@ -1,10 +1,11 @@
 -- `put_word` meets its contract.
 use mathlib.Core.Path.{refl}
-use native.Mathlib.Numerals.{add-one}
+use Prim.Native.Nat.{_/_, _%_}
 use native.Mathlib.Omega.{arith}
 use borrow.Author.Needs.{needs}
 use borrow.Author.Tests.{eq-eqb, ne-eqb}
 use lib.ListN.{length-set}
+use Rattle.record.proofs.Stores.{sets-two}
 use Rattle.record.proofs.put_word.Statement.{statement}
 use Rattle.record.proofs.put_word.Tie as tie
 
@@ -18,7 +19,10 @@ high-fits : tie.Need-slice-write-out-2
 high-fits c = simp length-set (omega (arith, simp (ne-eqb _ _ (c .if1 .left)) at (c .before .pre)))
 
 stands : tie.Need-returns-2
-stands c = simp (ne-eqb _ _ (c .if1 .left)) (record { place = refl; bytes = rw add-one refl })
+stands c =
+    let a = c .before .args in
+    simp (ne-eqb _ _ (c .if1 .left))
+    (record { place = refl; bytes = sets-two (a .out .now) (a .at) (a .x % 256) (a .x / 256) })
 
 pub put-word-spec : {M : Type 1} → statement M
 put-word-spec =
