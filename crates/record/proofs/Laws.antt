@@ -63,7 +63,7 @@ module _ (s : List ℕ) (h : Bytes s) (x : Scenario) (n : ℕ) (e : readOf s ≡
   record-size : length (recordOf x) ≡ n
   record-size =
       let r = read-as s x n e in
-      ap length read-is-record ∙ length-take-le n s (omega (arith, r .passes .room, r .size))
+      ap length read-is-record ∙ length-take-le n s (omega (arith, r .passes .front .room, r .size))
 
   pub read-is-written : (lent : List ℕ) → n ≤ length lent →
       (writeOf x lent ≡ Length n) × (lentAfter x lent ≡ take n s ++ drop n lent)

@@ -87,7 +87,7 @@ unfolding recordOf lengthBy scenarioIn numbersOf
 record-read s h a =
     let m = mapIn s in
     let x = scenarioIn s in
-    let room : sizeOf layout m ≤ length (drop 1 s) = simp length-drop (omega (arith, a .room)) in
-    let k = all-kept layout m x (drop 1 s) refl (a .apart) (required m (a .passes)) (bytes-drop 1 s h) room in
-    let same = map-agrees layout m x (k .0) ∙ map-rebuilt m (h 0) (map-small m (h 0) (a .passes)) in
-    rw (same, k .1) (sym (front (sizeOf layout m) s (a .some)))
+    let room : sizeOf layout m ≤ length (drop 1 s) = simp length-drop (omega (arith, a .front .room)) in
+    let k = all-kept layout m x (drop 1 s) refl (a .apart) (required m (a .front .passes)) (bytes-drop 1 s h) room in
+    let same = map-agrees layout m x (k .0) ∙ map-rebuilt m (h 0) (map-small m (h 0) (a .front .passes)) in
+    rw (same, k .1) (sym (front (sizeOf layout m) s (a .front .some)))

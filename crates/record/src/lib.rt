@@ -8,9 +8,9 @@ ghost use lib.Seq.{sets};
 ghost use mathlib.Core.Option.{some};
 ghost use denote.Ref.{ptr};
 ghost use Rattle.record.specs.Layout.{layout, numberOf, absentWritten, mapOf, partOf, partsOf};
-ghost use Rattle.record.specs.Outcome.{mapIn, scenarioIn, lengthBy, mapRefusal, readRefusal, readOf, restAt, restOf, ReadPromise};
+ghost use Rattle.record.specs.Outcome.{mapIn, scenarioIn, lengthBy, mapRefusal, readOf, restAt, restOf, ReadPromise};
 ghost use Rattle.record.specs.Outcome.{writeOf, lentAfter, WritePromise};
-ghost use Rattle.record.specs.Steps.{Put};
+ghost use Rattle.record.specs.Steps.{frontRefusal, fieldRefusal, Put};
 use scenario::Scenario;
 
 // What reading answers: the scenario and the length of its record, or the number with which it is turned away.
@@ -158,9 +158,9 @@ fn absent_written(m: u8, x: Scenario) -> bool
     )
 }
 
-// The first of reading's checks that s fails, 0 where it fails none.
-fn read_refusal(s: &[u8]) -> u8
-    ensures { λ r. ⌜ r ≡ readRefusal (now (s .entry)) ⌝ }
+// The checks before the fields are taken.
+fn front_refusal(s: &[u8]) -> u8
+    ensures { λ r. ⌜ r ≡ frontRefusal (now (s .entry)) ⌝ }
 {
     if s.len() == 0 {
         return 7;
@@ -173,7 +173,13 @@ fn read_refusal(s: &[u8]) -> u8
     if s.len() < record_length(m) {
         return 7;
     }
-    let x = fields(s);
+    0
+}
+
+// The checks of the fields.
+fn field_refusal(m: u8, x: Scenario) -> u8
+    ensures { λ r. ⌜ r ≡ fieldRefusal m x ⌝ }
+{
     if absent_written(m, x) {
         return 11;
     }
@@ -185,12 +191,17 @@ pub fn read(s: &[u8]) -> Reading
     ensures { λ r. ⌜ r ≡ readOf (now (s .entry)) ⌝ }
     ensures { λ r. ⌜ ReadPromise (now (s .entry)) r ⌝ }
 {
-    let k = read_refusal(s);
+    let front = front_refusal(s);
+    if front != 0 {
+        return Reading::Refused(front);
+    }
+    let m = s[0];
+    let x = fields(s);
+    let k = field_refusal(m, x);
     if k != 0 {
         return Reading::Refused(k);
     }
-    let x = fields(s);
-    let n = record_length(s[0]);
+    let n = record_length(m);
     Reading::Read(x, n)
 }
 
@@ -200,11 +211,10 @@ pub fn rest(s: &[u8]) -> &[u8]
     ensures { λ r. ⌜ now r ≡ restOf (now (s .entry)) ⌝ }
     ensures { λ r. ⌜ ptr r ≡ (ptr (s .entry) .0, restAt (now (s .entry)) + ptr (s .entry) .1) ⌝ }
 {
-    if read_refusal(s) != 0 {
-        return &s[..0];
+    match read(s) {
+        Reading::Read(_, n) => &s[n..],
+        Reading::Refused(_) => &s[..0],
     }
-    let n = record_length(s[0]);
-    &s[n..]
 }
 
 // The map byte of x's record.

@@ -1,44 +1,71 @@
 -- `read` meets its contract.
-use mathlib.Core.Path.{_≡_, sym, _∙_}
+use mathlib.Core.Path.{_≡_, sym, ap, _∙_}
 use borrow.Author.Needs.{needs}
-use Rattle.scenario.proofs.CheckLaws.{is-refused}
 use Rattle.record.specs.declared.Reading.the-variants as R
-use Rattle.record.specs.Outcome.{readOf}
-use Rattle.record.proofs.ReadingLaws.{accepted, read-promise}
+use Rattle.record.specs.Outcome.{mapIn, scenarioIn, readOf, ReadPromise}
+use Rattle.record.specs.Steps.{fieldRefusal}
+use Rattle.record.proofs.ReadingLaws.{front-passes, refused-front, refused-fields, is-read}
 use Rattle.record.proofs.read.Statement.{statement}
 use Rattle.record.proofs.read.Tie as tie
 
-refused : tie.Need-returns
-unfolding readOf
-refused c =
-    let k = c .before .read-refusal in
-    let e : R.Refused (k .result) ≡ readOf (c .before .before .before .args .s .now) =
-    rw (k .ensures) (is-refused _ _ _ (λ z. c .if1 .taken (k .ensures ∙ z))) in
-    (e, rw e (read-promise _))
+front-refused : tie.Need-returns
+front-refused c =
+    let k = c .before .front-refusal in
+    let r = refused-front _ (k .result) (k .ensures) (c .if1 .taken) in
+    (r .answer, r .promise)
+
+some : tie.Need-shared-slice-read-m
+some c =
+    let k = c .before .before .front-refusal in
+    front-passes _ (sym (k .ensures) ∙ c .before .if1 .left) .some
 
 fields-stand : tie.Need-fields-requires
 fields-stand c κs =
-    let a = accepted _ (sym (c .before .read-refusal .ensures) ∙ c .if1 .left) in
-    (a .passes, a .room)
+    let k = c .before .before .front-refusal in
+    let f = front-passes _ (sym (k .ensures) ∙ c .before .if1 .left) in
+    (f .passes, f .room)
 
-some : tie.Need-shared-slice-read-record-length
-some c =
-    let k = c .before .before .before in
-    accepted _ (sym (k .read-refusal .ensures) ∙ c .before .before .if1 .left) .some
+fields-refused : tie.Need-returns-2
+fields-refused c =
+    let k = c .before .field-refusal in
+    let x = c .before .before .fields in
+    let e = c .before .before .before .before in
+    let s = e .before .before .before .args .s .now in
+    let number : k .result ≡ fieldRefusal (mapIn s) (scenarioIn s) =
+    k .ensures ∙ ap (fieldRefusal (mapIn s)) (x .ensures) in
+    let front = sym (e .before .front-refusal .ensures) ∙ e .if1 .left in
+    let r = refused-fields s (k .result) front number (c .if2 .taken) in
+    (r .answer, r .promise)
 
-passes : tie.Need-record-length-requires
-passes c κs =
-    let k = c .before .before .before in
-    accepted _ (sym (k .read-refusal .ensures) ∙ c .before .before .if1 .left) .passes
+map-passes : tie.Need-record-length-requires
+map-passes c κs =
+    let e = c .before .before .before .before in
+    front-passes _ (sym (e .before .front-refusal .ensures) ∙ e .if1 .left) .passes
 
-is-read : tie.Need-returns-2
-unfolding readOf
-is-read c =
-    let k = c .before .before .before .before in
-    let s = k .before .before .args .s .now in
-    let e : R.Read (c .before .before .fields .result) (c .record-length .result) ≡ readOf s =
-    rw (sym (k .read-refusal .ensures) ∙ c .before .before .before .if1 .left) (cc) in
-    (e, rw e (read-promise s))
+read : tie.Need-returns-3
+read c =
+    let k = c .before .before .field-refusal in
+    let x = c .before .before .before .fields in
+    let e = c .before .before .before .before .before in
+    let s = e .before .before .before .args .s .now in
+    let none : fieldRefusal (mapIn s) (scenarioIn s) ≡ 0 =
+    ap (fieldRefusal (mapIn s)) (sym (x .ensures)) ∙ (sym (k .ensures) ∙ c .before .if2 .left) in
+    let r = is-read s (sym (e .before .front-refusal .ensures) ∙ e .if1 .left) none in
+    let answer : R.Read (x .result) (c .record-length .result) ≡ readOf s =
+    rw (x .ensures, c .record-length .ensures) (r .answer) in
+    let promise : ReadPromise s (R.Read (x .result) (c .record-length .result)) =
+    rw (x .ensures, c .record-length .ensures) (r .promise) in
+    (answer, promise)
 
 pub read-spec : {M : Type 1} → statement M
-read-spec = tie.close (tie.spec (λ c κs. search needs) refused fields-stand some passes is-read)
+read-spec =
+    tie.close
+    (tie.spec
+    (λ c κs. search needs)
+    front-refused
+    some
+    fields-stand
+    (λ c κs. search needs)
+    fields-refused
+    map-passes
+    read)
