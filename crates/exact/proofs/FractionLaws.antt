@@ -26,6 +26,13 @@ unfolding _over_
 over-Is z zero h = absurd (omega arith)
 over-Is z (suc d) h = is-self (z over suc d)
 
+-- a number of one sign
+pub over-above : (z : ℤ) (d : ℕ) → 1 ≤ d → down z ≤ 0 → Is (z over d) (up z) 0 d
+over-above z d h s = let i = over-Is z d h in record { value = omega (arith, i .value); scale = i .scale }
+
+pub over-below : (z : ℤ) (d : ℕ) → 1 ≤ d → up z ≤ 0 → Is (z over d) 0 (down z) d
+over-below z d h s = let i = over-Is z d h in record { value = omega (arith, i .value); scale = i .scale }
+
 pub zero-Is : Is zeroQ 0 0 1
 unfolding zeroQ _over_ up down
 zero-Is = record { value = refl; scale = refl }

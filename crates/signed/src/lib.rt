@@ -1,7 +1,14 @@
-// The one signed step of an answer: the difference of two unsigned numbers.
+// The one signed step of an answer: the difference of two unsigned numbers, and a pair of them.
 ghost use mathlib.Core.Path.{_≡_};
 ghost use Prim.Native.Nat.{_+_, _^_, _<_};
 ghost use lib.IntN.{subℕ};
+ghost use Rattle.signed.specs.Evaluation.{betweenOf};
+
+// A low end and a high end.
+pub struct Ends {
+    pub low: i64,
+    pub high: i64,
+}
 
 // a − b, where its size is below 2^63.
 pub fn difference(a: u64, b: u64) -> i64
@@ -12,4 +19,15 @@ pub fn difference(a: u64, b: u64) -> i64
         return -((b - a) as i64);
     }
     (a - b) as i64
+}
+
+// From a − b to c − d.
+pub fn between(a: u64, b: u64, c: u64, d: u64) -> Ends
+    requires { ⌜ (a < 2 ^ 63) × (b < 2 ^ 63) × (c < 2 ^ 63) × (d < 2 ^ 63) ⌝ }
+    ensures { λ r. ⌜ r ≡ betweenOf a b c d ⌝ }
+{
+    Ends {
+        low: difference(a, b),
+        high: difference(c, d),
+    }
 }

@@ -1,0 +1,6 @@
+pub mod Rows
+pub mod Bounds
+pub mod Listed
+pub mod Sums
+pub mod Laws
+pub mod SigmaLaws

@@ -1,0 +1,65 @@
+-- Signs and sizes of the coefficients: one test over all rows of both tables. And the rows are those of the periods.
+use mathlib.Core.Path.{_≡_, refl}
+use mathlib.Core.Bool.{Bool, true, false, cond}
+use mathlib.Core.List.{List, [], _∷_, map}
+use Prim.Native.Nat.{ℕ, _+_, _*_, _<_}
+use native.Mathlib.Omega.{arith}
+use lib.Dec.{T}
+use lib.ListN.{getD}
+use Rattle.signed.proofs.Whole.{up, down}
+use Rattle.exact.proofs.Tests.{every, every-at, allLe, AllLe, all-le}
+use Rattle.scenario.specs.Refusal.{idrissPeriods}
+use Rattle.idriss.specs.declared.table.Row as code
+use Rattle.idriss.specs.Tables.{Row, table2, table3, noRow, rowAt}
+use Rattle.idriss.specs.Evaluation.{parts, TableLimits}
+
+-- the limits, each as two numbers in order
+abbrev limits : Row → List (ℕ × ℕ)
+limits r =
+    let p : code.Row = parts r in
+    (p .0, 120_000) ∷ (p .1, 120_000) ∷ (p .2, 20_000) ∷ (p .3, 20_000) ∷ (p .4, 1_000) ∷ (p .5, 1_000) ∷ (p .6, 30_500) ∷
+    (p .7 * 790, 100 * p .6) ∷ (100 * p .6, 2_000_000 + p .7 * 450) ∷ (p .8, 1_500) ∷ (p .9, 100) ∷ (p .10, 10) ∷
+    (down (r .β1), 0) ∷ (up (r .β2), 0) ∷ (up (r .ξ), 0) ∷ (up (r .γ), 0) ∷ (down (r .φ), 0) ∷ []
+
+in-order : (r : Row) → AllLe (limits r) → TableLimits r
+in-order r h = record {
+  sizes = record {
+    alpha1-gain = omega arith;
+    alpha1-loss = omega arith;
+    alpha2-gain = omega arith;
+    alpha2-loss = omega arith;
+    alpha3-gain = omega arith;
+    alpha3-loss = omega arith;
+    beta1 = omega arith;
+    beta-least = omega arith;
+    beta-most = omega arith;
+    xi = omega arith;
+    gamma = omega arith;
+    phi = omega arith;
+  };
+  beta1-above = omega arith;
+  beta2-below = omega arith;
+  xi-below = omega arith;
+  gamma-below = omega arith;
+  phi-above = omega arith;
+}
+
+abbrev test : ℕ → Row → Bool
+test k r = allLe (limits r)
+
+both-tables : (third : Bool) → T (every test 0 (cond third table3 table2))
+unfolding up down
+both-tables true = tt
+both-tables false = tt
+
+pub row-limits : (third : Bool) (k : ℕ) → k < 22 → TableLimits (rowAt third k)
+unfolding rowAt
+row-limits true k h = in-order _ (all-le (limits (getD table3 k noRow)) (every-at test noRow 0 table3 (both-tables true) k h))
+row-limits false k h = in-order _ (all-le (limits (getD table2 k noRow)) (every-at test noRow 0 table2 (both-tables false) k h))
+
+-- the printed periods are those of the scenario's rows, in their order
+pub periods-2 : map (λ (r : Row). r .period) table2 ≡ idrissPeriods
+periods-2 = refl
+
+pub periods-3 : map (λ (r : Row). r .period) table3 ≡ idrissPeriods
+periods-3 = refl

@@ -1,0 +1,121 @@
+-- What `sigmaOf` promises (specs/Promise).
+use mathlib.Core.Path.{_≡_, refl, sym, _∙_, ap}
+use mathlib.Core.Bool.{Bool, true, false, cond}
+use Prim.Native.Nat.{ℕ, _+_, _*_, _≤_, _<_, min, max}
+use native.Mathlib.Decide.{decLt}
+use native.Mathlib.Omega.{arith}
+use borrow.Author.Tests.{lt-ltb, le-ltb, eqb-true}
+use lib.Dec.{ltb, eqb}
+use lib.IntN.{pos, _+ℤ_}
+use lib.Signed.{_≤ℤ_}
+use Rattle.signed.specs.declared.Ends.{Ends}
+use Rattle.signed.specs.Evaluation.{betweenOf}
+use Rattle.signed.proofs.Whole.{up, down}
+use Rattle.exact.specs.Fraction.{_over_, _*q_}
+use Rattle.exact.specs.Pair.{_∈_}
+use Rattle.exact.specs.Formula.{ends}
+use Rattle.exact.proofs.FractionLaws.{over-Is, mul-Is}
+use Rattle.exact.proofs.Points.{Points, value, Sound}
+use Rattle.exact.proofs.UnitLaws.{Lies, lies-natural, lies-negated, lies-stated, lies-sum, lies-difference}
+use Rattle.logarithm.specs.declared.Ends as natural
+use Rattle.logarithm.specs.Promise.{LnDomain}
+use Rattle.logarithm.specs.Evaluation.{lnOf}
+use Rattle.logarithm.proofs.Enclosure.{Known, encloses}
+use Rattle.outward.proofs.Laws.{Held, HeldBelow, multiple-held, multiple-below, lies-between, narrow-between}
+use Rattle.idriss.specs.Median.{hundredths}
+use Rattle.idriss.specs.Sigma.{heldTo, ownPeriod, sigma}
+use Rattle.idriss.specs.Promise.{SigmaDomain, sigmaWidth, SigmaEnds}
+use Rattle.idriss.specs.Periods.{periodLogarithm}
+use Rattle.idriss.specs.Evaluation.{periodTermOf, sigmaOf}
+use Rattle.idriss.proofs.Listed.{Listed, period-listed, term-sized, held-tabled}
+use Rattle.idriss.proofs.Sums.{sigma-below, sigma-above}
+
+-- period 0 is held like 0.01 s
+own-held : (period : ℕ) → heldTo 50 3_000 (ownPeriod period) ≡ heldTo 50 3_000 period
+own-held period = go (eqb period 0) refl
+  where
+    go : (b : Bool) → eqb period 0 ≡ b → heldTo 50 3_000 (cond b 10 period) ≡ heldTo 50 3_000 period
+    go true e = rw (eqb-true period 0 e) refl
+    go false e = refl
+
+-- 1.18
+constant : Lies (pos 118 over 100) 1_180_000_000 0 1_180_000_000 0
+unfolding up down
+constant = lies-stated (over-Is (pos 118) 100 (omega arith)) 1_180_000_000 0 (omega arith)
+
+-- 0.06 M
+magnitude-term : (m : ℕ) → Lies (pos 6 over 100 *q hundredths m) (600_000 * m) 0 (600_000 * m) 0
+unfolding up down
+magnitude-term m =
+    lies-stated (mul-Is (over-Is (pos 6) 100 (omega arith)) (over-Is (pos m) 100 (omega arith))) (600_000 * m) 0 (omega arith)
+
+module _ {t : ℕ} (l : Listed t) {σ : Points} (known : Known σ) where
+  -- ln T from 1 s on, and its negative below
+  abbrev e : natural.Ends
+  e = periodLogarithm t
+
+  ln-held : 1_000 ≤ t → Held (σ .lnAt t 1_000) e
+  ln-held h =
+      let most : max t 1_000 ≡ t = omega arith in
+      let least : min t 1_000 ≡ 1_000 = omega arith in
+      rw (l .is, most, least) (lies-natural _ _ (known .ln-within (rw (most, least) at (l .domain))))
+
+  ln-below : t < 1_000 → HeldBelow (σ .lnAt t 1_000) e
+  ln-below h =
+      let most : max t 1_000 ≡ 1_000 = omega arith in
+      let least : min t 1_000 ≡ t = omega arith in
+      rw (known .ln-negated h, l .is, most, least)
+      (lies-negated (lies-natural _ _ (known .ln-within (rw (most, least) at (l .domain)))))
+
+  -- 0.035 ln T
+  term-held : 1_000 ≤ t → Held (pos 35 over 1_000 *q σ .lnAt t 1_000) (periodTermOf t)
+  unfolding periodTermOf up down
+  term-held h = multiple-held 35 1_000 700_000 (omega arith) (ln-held h) (over-Is (pos 35) 1_000 (omega arith))
+
+  term-below : t < 1_000 → HeldBelow (pos 35 over 1_000 *q σ .lnAt t 1_000) (periodTermOf t)
+  unfolding periodTermOf up down
+  term-below h = multiple-below 35 1_000 700_000 (omega arith) (ln-below h) (over-Is (pos 35) 1_000 (omega arith))
+
+-- ---- sigma
+
+module _ (period magnitude : ℕ) (d : SigmaDomain period) where
+  abbrev t : ℕ
+  t = heldTo 50 3_000 period
+
+  abbrev m : ℕ
+  m = 600_000 * heldTo 500 750 magnitude
+
+  abbrev term : natural.Ends
+  term = periodTermOf t
+
+  listed : Listed t
+  listed = period-listed t (held-tabled period (d .tabled))
+
+  sigma-held : (σ : Points) → Known σ → value σ (sigma period magnitude) ∈ ends (sigmaOf period magnitude .low) (sigmaOf period magnitude .high)
+  unfolding sigma value
+  sigma-held σ known = rw (own-held period) (elim (decLt t 1_000) [
+    | yes h ↦
+        rw (← (sigma-below period magnitude refl refl refl h))
+        (lies-between (lies-difference (lies-sum constant (term-below listed known h)) (magnitude-term (heldTo 500 750 magnitude)))
+        1_180_000_000 (m + term .high) 1_180_000_000 (m + term .low) (omega arith) (omega arith))
+    | no h ↦
+        let g : 1_000 ≤ t = omega arith in
+        rw (← (sigma-above period magnitude refl refl refl g))
+        (lies-between (lies-difference (lies-sum constant (term-held listed known g)) (magnitude-term (heldTo 500 750 magnitude)))
+        (1_180_000_000 + term .low) m (1_180_000_000 + term .high) m (omega arith) (omega arith))
+  ])
+
+  sigma-narrow : sigmaOf period magnitude .high ≤ℤ (sigmaOf period magnitude .low +ℤ pos sigmaWidth)
+  sigma-narrow = elim (decLt t 1_000) [
+    | yes h ↦
+        rw (← (sigma-below period magnitude refl refl refl h))
+        (narrow-between 1_180_000_000 (m + term .high) 1_180_000_000 (m + term .low) sigmaWidth (omega (arith, term-sized listed .narrow)))
+    | no h ↦
+        rw (← (sigma-above period magnitude refl refl refl (omega arith)))
+        (narrow-between (1_180_000_000 + term .low) m (1_180_000_000 + term .high) m sigmaWidth (omega (arith, term-sized listed .narrow)))
+  ]
+
+  pub sigmaOf-promise : SigmaEnds period magnitude (sigmaOf period magnitude)
+  unfolding sigma Sound
+  sigmaOf-promise =
+      record { encloses = encloses (((tt, (tt, (omega arith, omega arith))), tt)) sigma-held; narrow = sigma-narrow }

@@ -1,0 +1,44 @@
+-- What is promised of the ends of median and sigma, whatever the engine computes. proofs/Laws shows it of `medianOf` and
+-- `sigmaOf`, which the contracts name; nobody has to read those two to believe it.
+use mathlib.Core.Path.{_≡_}
+use mathlib.Core.Bool.{true}
+use mathlib.Core.List.{_∷_}
+use Prim.Native.Nat.{ℕ, _≤_, _<_}
+use lib.IntN.{pos, _+ℤ_}
+use lib.Signed.{_≤ℤ_}
+use Rattle.signed.specs.declared.Ends.{Ends}
+use Rattle.exact.specs.Formula.{ends, Encloses}
+use Rattle.scenario.specs.Lists.{among}
+use Rattle.scenario.specs.Refusal.{idriss}
+use Rattle.idriss.specs.Tables.{Row}
+use Rattle.idriss.specs.Median.{median}
+use Rattle.idriss.specs.Sigma.{sigma}
+
+-- the arguments of the median: a row of a table, and numbers within the limits of the model
+pub record MedianDomain (k magnitude ruptureDistance velocity : ℕ) : Type 0 where
+  pub row : k < 22
+  pub magnitude-low : idriss .magnitude .low ≤ magnitude
+  pub magnitude-high : magnitude ≤ idriss .magnitude .high
+  pub near : ruptureDistance ≤ idriss .distance .high
+  pub fast : idriss .velocity .low ≤ velocity
+
+-- the argument of sigma: 0 or a tabled period
+pub record SigmaDomain (period : ℕ) : Type 0 where
+  pub tabled : among (0 ∷ idriss .periods) period ≡ true
+
+-- how far the ends are apart at most; demand 3 allows 100 for the median and 10 for sigma
+abbrev pub medianWidth : ℕ
+medianWidth = 9
+
+abbrev pub sigmaWidth : ℕ
+sigmaWidth = 2
+
+-- e encloses the median by the row r, at every fineness, and is narrow
+pub record MedianEnds (r : Row) (magnitude ruptureDistance velocity mechanism : ℕ) (e : Ends) : Type 0 where
+  pub encloses : Encloses (ends (e .low) (e .high)) (median r magnitude ruptureDistance velocity mechanism)
+  pub narrow : e .high ≤ℤ (e .low +ℤ pos medianWidth)
+
+-- e encloses sigma, at every fineness, and is narrow
+pub record SigmaEnds (period magnitude : ℕ) (e : Ends) : Type 0 where
+  pub encloses : Encloses (ends (e .low) (e .high)) (sigma period magnitude)
+  pub narrow : e .high ≤ℤ (e .low +ℤ pos sigmaWidth)

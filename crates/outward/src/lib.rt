@@ -1,0 +1,57 @@
+// Products of what lies between two ends, none of them below zero, in units of 10^-9, rounded outward.
+ghost use mathlib.Core.Path.{_≡_};
+ghost use Prim.Native.Nat.{min, max};
+ghost use Rattle.outward.specs.Evaluation.{MultipleDomain, ProductDomain, multipleOf, productOf, spanOf};
+use logarithm::Ends;
+
+// c/20,000,000 of what lies between e's ends.
+pub fn multiple(c: u64, e: Ends) -> Ends
+    requires { ⌜ MultipleDomain c e ⌝ }
+    ensures { λ r. ⌜ r ≡ multipleOf c e ⌝ }
+{
+    Ends {
+        low: c * e.low / 20_000_000,
+        high: c * e.high / 20_000_000 + 1,
+    }
+}
+
+// What lies between a's ends times what lies between b's.
+pub fn product(a: Ends, b: Ends) -> Ends
+    requires { ⌜ ProductDomain a b ⌝ }
+    ensures { λ r. ⌜ r ≡ productOf a b ⌝ }
+{
+    Ends {
+        low: a.low * b.low / 1_000_000_000,
+        high: a.high * b.high / 1_000_000_000 + 1,
+    }
+}
+
+// The lesser of two.
+pub fn lesser(a: u64, b: u64) -> u64
+    ensures { λ r. ⌜ r ≡ min a b ⌝ }
+{
+    if a < b {
+        return a;
+    }
+    b
+}
+
+// The greater of two.
+pub fn greater(a: u64, b: u64) -> u64
+    ensures { λ r. ⌜ r ≡ max a b ⌝ }
+{
+    if a < b {
+        return b;
+    }
+    a
+}
+
+// From the lesser low end to the greater high end.
+pub fn span(a: Ends, b: Ends) -> Ends
+    ensures { λ r. ⌜ r ≡ spanOf a b ⌝ }
+{
+    Ends {
+        low: lesser(a.low, b.low),
+        high: greater(a.high, b.high),
+    }
+}

@@ -1,0 +1,26 @@
+-- `between` meets its contract.
+use mathlib.Core.Path.{refl}
+use native.Mathlib.Omega.{arith}
+use borrow.Author.Needs.{needs}
+use Rattle.signed.specs.Evaluation.{betweenOf}
+use Rattle.signed.proofs.Laws.{stored}
+use Rattle.signed.proofs.between.Statement.{statement}
+use Rattle.signed.proofs.between.Tie as tie
+
+difference-requires : tie.Need-difference-requires
+difference-requires c κs = search needs
+
+difference-requires-2 : tie.Need-difference-requires-2
+difference-requires-2 c κs = search needs
+
+returns : tie.Need-returns
+unfolding betweenOf
+returns c =
+    let a = c .before .before .args in
+    rw (
+      stored (a .a) (a .b) (omega arith) (omega arith) (c .before .difference .ensures),
+      stored (a .c) (a .d) (omega arith) (omega arith) (c .difference2 .ensures),
+    ) refl
+
+pub between-spec : {M : Type 1} → statement M
+between-spec = tie.close (tie.spec difference-requires difference-requires-2 returns)
