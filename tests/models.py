@@ -290,8 +290,8 @@ def nonlinear_over_slope(p):
     """Return the span, over all real numbers of the pair p, of the nonlinear part over the slope."""
     lower, upper = real_ln(3, 100), real_ln(9, 100)
     reached = []
-    # "A branch is reached if points of the compared pairs meet its condition."  Each branch sees the points of p that
-    # meet its condition, and no others.
+    # "A branch is reached if points of the compared pairs meet its condition."  This is the range of a function of a
+    # real p, so each branch is worked out over the points that meet its condition, and no others.
     if p.low <= lower.high:
         reached.append(real_ln(6, 10))
     if p.high > lower.low and p.low <= upper.high:
@@ -467,7 +467,8 @@ def nonlinear_pair(row, velocity, p, n):
 def span_reached(p, lower, upper, branches):
     """Return the span of the branches that p reaches: up to lower, up to upper, above."""
     low, middle, high = branches
-    # "A branch is reached if points of the compared pairs meet its condition."
+    # "A branch is reached if points of the compared pairs meet its condition."  The formula's branches are worked out
+    # over the whole pair p, as the document has no rule that would cut it at a threshold.
     reached = []
     if p.low <= lower.high:
         reached.append(low)

@@ -121,13 +121,13 @@ sign x = go (x .num) refl
     go (negsuc n) e = inr (suc n, record { value = rw e (omega arith); scale = refl })
 
 -- above zero: n / d with n of at least 1, and one over it is d / n
-record Above (x : Fraction) : Type 0 where
-  n : ℕ
-  some : 0 < n
-  is : Is x n 0 (x .den)
-  turned : Is (recipQ x) (x .den) 0 n
+pub record Above (x : Fraction) : Type 0 where
+  pub n : ℕ
+  pub some : 0 < n
+  pub is : Is x n 0 (x .den)
+  pub turned : Is (recipQ x) (x .den) 0 n
 
-above-zero : (x : Fraction) → zeroQ <q x → Above x
+pub above-zero : (x : Fraction) → zeroQ <q x → Above x
 unfolding up down recipQ flip _over_
 above-zero x h = go (x .num) refl
   where

@@ -43,6 +43,15 @@ harmonic-least (suc c) k h =
 pub harmonic-more : (c d k : ℕ) → 1 ≤ k → harmonic c k ≤q harmonic (c + d) k
 harmonic-more c d k h = ≤q-trans (add-more _ (harmonic-least d (k + c) (omega arith))) (≈q-≥q (harmonic-split c d k))
 
+-- c terms, none of them above the first
+pub harmonic-most : (c k : ℕ) → 1 ≤ k → harmonic c k ≤q pos c over k
+unfolding harmonic up down
+harmonic-most zero k h = le-of zero-Is (over-Is (pos 0) k h) (omega arith)
+harmonic-most (suc c) k h =
+    ≤q-trans
+    (add-mono (≤q-refl _) (≤q-trans (harmonic-most c (suc k) (omega arith)) (over-≤ c c (omega arith) h (omega arith))))
+    (≤q-trans (≈q-≤q (over-add 1 c h)) (over-≤ (1 + c) (suc c) h h (omega arith)))
+
 -- ---- compared with weights w k / D, term by term
 
 abbrev pub weights : (ℕ → ℕ) → ℕ → ℕ → ℕ

@@ -1,4 +1,5 @@
 pub mod FractionLaws
+pub mod AlgebraLaws
 pub mod PairLaws
 pub mod Harmonic
 pub mod LogarithmLaws

@@ -5,10 +5,10 @@ use Prim.Native.Nat.{ℕ, _+_, _*_, _≤_}
 use native.Mathlib.Omega.{arith}
 use lib.IntN.{pos, subℕ}
 use Rattle.signed.proofs.Whole.{sub-is, sub-zero}
-use Rattle.exact.specs.Fraction.{Fraction, _≤q_, _+q_, negQ, _-q_, _*q_}
+use Rattle.exact.specs.Fraction.{Fraction, _≤q_, _≈q_, _+q_, negQ, _-q_, _*q_}
 use Rattle.exact.specs.Pair.{_∈_}
 use Rattle.exact.specs.Formula.{units, ends}
-use Rattle.exact.proofs.FractionLaws.{Is, le-of, add-Is, mul-Is, neg-Is, over-Is, ≤q-trans, add-mono, neg-anti, upward, mul-between-right, between-low, between-high}
+use Rattle.exact.proofs.FractionLaws.{Is, le-of, add-Is, mul-Is, neg-Is, over-Is, ≤q-trans, ≈q-≤q, ≈q-≥q, add-mono, neg-anti, upward, mul-between-right, between-low, between-high}
 
 -- p − q units
 pub units-Is : (p q : ℕ) → Is (units (subℕ p q)) p q 1_000_000_000
@@ -36,6 +36,9 @@ lies-wider {lu = lu} {ld} {hu} {hd} h lu' ld' hu' hd' p q = record {
   from = ≤q-trans (le-of (units-Is lu' ld') (units-Is lu ld) (omega arith)) (h .from);
   to = ≤q-trans (h .to) (le-of (units-Is hu hd) (units-Is hu' hd') (omega arith));
 }
+
+pub lies-same : {x y : Fraction} {lu ld hu hd : ℕ} → x ≈q y → Lies y lu ld hu hd → Lies x lu ld hu hd
+lies-same e h = record { from = ≤q-trans (h .from) (≈q-≥q e); to = ≤q-trans (≈q-≤q e) (h .to) }
 
 -- a stated number (u − v) / d that is the whole number p − q of units
 pub lies-stated : {x : Fraction} {u v d : ℕ} → Is x u v d → (p q : ℕ) →

@@ -1,16 +1,18 @@
 -- What `lnOf` and `rootOf` promise (specs/Promise), and the order and the sizes that callers rest on.
 use mathlib.Core.Path.{_≡_}
 use mathlib.Core.Bool.{Bool, true, false, cond}
-use Prim.Native.Nat.{ℕ, suc, _+_, _*_, _/_, _^_, _≤_, _<_}
+use Prim.Native.Nat.{ℕ, suc, _+_, _*_, _-_, _/_, _^_, _≤_, _<_}
 use native.Mathlib.Omega.{arith}
 use borrow.Author.Tests.{eq-eqb}
 use lib.Dec.{T, eqb, eqb→eq}
 use lib.IntN.{pos}
 use Rattle.signed.proofs.Whole.{up, down}
 use Rattle.exact.specs.Fraction.{_over_, _<q_, _-q_, _*q_}
+use Rattle.exact.specs.Logarithm.{upperSum}
 use Rattle.exact.specs.Root.{rootValues}
 use Rattle.exact.specs.Formula.{units}
-use Rattle.exact.proofs.FractionLaws.{lt-of, add-Is, mul-Is, neg-Is, over-Is}
+use Rattle.exact.proofs.FractionLaws.{le-as, lt-of, ≤q-trans, add-Is, mul-Is, neg-Is, over-Is}
+use Rattle.exact.proofs.Harmonic.{harmonic-most}
 use Rattle.exact.proofs.LogarithmLaws.{Bounds, bounds-wider, bounds-same, encloses-ln}
 use Rattle.exact.proofs.RootLaws.{wholeRoot-is, root-below, encloses-root}
 use Rattle.logarithm.specs.declared.Ends.{Ends}
@@ -89,6 +91,15 @@ lnOf-order d = lnOf-rounded d .order
 
 pub lnOf-small : {a b : ℕ} → LnDomain a b → lnOf a b .high ≤ 21_000_000_000
 lnOf-small d = lnOf-rounded d .small
+
+-- ln(a/b) is at most (a − b)/b
+pub lnOf-most : {a b : ℕ} → LnDomain a b → lnOf a b .low * b ≤ (a - b) * 1_000_000_000
+unfolding upperSum up down
+lnOf-most {a} {b} d =
+    let h = lnOf-rounded d .bounds .lower 1 (omega arith) in
+    let k = harmonic-most (a * 1 - b * 1) (b * 1) (omega (arith, d .least)) in
+    let m = le-as (over-Is (pos (lnOf a b .low)) 1_000_000_000 (omega arith)) (over-Is (pos (a * 1 - b * 1)) (b * 1) (omega (arith, d .least))) (≤q-trans h k) in
+    omega (arith, m)
 
 pub rootOf-small : {X : ℕ} → X < 2 ^ 29 → rootOf X < 2 ^ 32
 unfolding rootOf

@@ -1,27 +1,37 @@
 -- What the products hold, how wide they are and how large.
 use mathlib.Core.Path.{_≡_, ap}
-use Prim.Native.Nat.{ℕ, _+_, _*_, _/_, _^_, _≤_, _<_, min, max}
-use native.Mathlib.Nat.{mul-le-mul, mul-le-mul-left, mul-le-mul-right, div-mul-le-self, lt-div-mul-add, lt-of-mul-lt-mul-right}
+use Prim.Native.Nat.{ℕ, _+_, _*_, _-_, _/_, _^_, _≤_, _<_, min, max}
+use native.Mathlib.Nat.{mul-le-mul, mul-le-mul-left, mul-le-mul-right, div-mul-le-self, lt-div-mul-add, lt-of-mul-lt-mul-right, le-of-mul-le-mul-right}
 use native.Mathlib.Omega.{arith}
 use lib.IntN.{pos, subℕ, _+ℤ_}
 use lib.Signed.{_≤ℤ_}
 use Rattle.signed.specs.Evaluation.{betweenOf}
 use Rattle.signed.proofs.Whole.{narrower}
-use Rattle.exact.specs.Fraction.{Fraction, _≤q_, _*q_}
+use Rattle.exact.specs.Fraction.{Fraction, _≤q_, _<q_, zeroQ, _+q_, _*q_, recipQ}
 use Rattle.exact.specs.Pair.{_∈_}
 use Rattle.exact.specs.Formula.{units, ends}
-use Rattle.exact.proofs.FractionLaws.{Is, ≤q-trans, le-as, le-of, mul-Is, upward, mul-between-left, mul-between-right, between-low, between-high}
-use Rattle.exact.proofs.UnitLaws.{Lies, units-Is, lies-ends, lies-wider, lies-multiple}
+use Rattle.exact.proofs.FractionLaws.{Is, zero-Is, ≤q-trans, <q-≤q-trans, le-as, le-of, lt-of, mul-Is, above-zero, upward, mul-between-left, mul-between-right, between-low, between-high}
+use Rattle.exact.proofs.UnitLaws.{Lies, units-Is, lies-ends, lies-wider, lies-sum, lies-multiple}
 use Rattle.logarithm.specs.declared.Ends.{Ends}
 use Rattle.logarithm.specs.Promise.{LnDomain, lnWidth}
 use Rattle.logarithm.specs.Evaluation.{lnOf}
-use Rattle.logarithm.proofs.Laws.{lnOf-promise, lnOf-order, lnOf-small}
-use Rattle.outward.specs.Evaluation.{Sized, scale, multipleOf, MultipleDomain, ProductDomain, productOf, spanOf}
+use Rattle.logarithm.proofs.Laws.{lnOf-promise, lnOf-order, lnOf-small, lnOf-most}
+use Rattle.outward.specs.Evaluation.{Sized, scale, multipleOf, MultipleDomain, ProductDomain, SumDomain, productOf, sumOf, spanOf}
 
 -- ---- sizes
 
+pub sized-wider : {e : Ends} {w b w' b' : ℕ} → Sized e w b → w ≤ w' → b ≤ b' → Sized e w' b'
+sized-wider s hw hb = record { order = s .order; narrow = omega (arith, s .narrow); small = omega (arith, s .small) }
+
 pub ln-sized : {a b : ℕ} → LnDomain a b → Sized (lnOf a b) lnWidth 21_000_000_000
 ln-sized d = record { order = lnOf-order d; narrow = lnOf-promise d .narrow; small = lnOf-small d }
+
+-- (a − b)/b is at most m
+pub ln-sized-by : {a b : ℕ} → LnDomain a b → (m : ℕ) → (a - b) * 1_000_000_000 ≤ m * b → Sized (lnOf a b) lnWidth (m + lnWidth)
+ln-sized-by {a} {b} d m h =
+    let low : lnOf a b .low ≤ m = le-of-mul-le-mul-right (omega (arith, lnOf-most d)) (d .least) in
+    let s = ln-sized d in
+    record { order = s .order; narrow = s .narrow; small = omega (arith, s .narrow, low) }
 
 -- numbers that are at most w apart are at most k + 1 apart after a division by s, w being at most k s
 near : (x y w k s : ℕ) → 1 ≤ s → y ≤ x + w → w ≤ k * s → y / s + 1 ≤ x / s + (k + 1)
@@ -77,6 +87,43 @@ module _ {x y : Ends} {w A v B : ℕ} (p : Sized x w A) (q : Sized y v B) where
         (apart (x .low) (x .high) (y .low) (y .high) A B w v (p .narrow) (q .narrow) (p .small) (q .small) (q .order)) hk;
     small = up-to (x .high * y .high) m 1_000_000_000 (omega arith) (omega (arith, mul-le-mul (p .small) (q .small)));
   }
+
+-- e's low end is at least l
+pub record From (e : Ends) (l : ℕ) : Type 0 where
+  pub least : l ≤ e .low
+
+pub product-from : {x y : Ends} {a b : ℕ} → From x a → From y b → (l : ℕ) → l * 1_000_000_000 ≤ a * b → From (productOf x y) l
+unfolding productOf
+product-from {x} {y} p q l h =
+    record { least = go _ (lt-div-mul-add {a = x .low * y .low} {b = 1_000_000_000} (omega arith)) }
+  where
+    go : (n : ℕ) → x .low * y .low < n * 1_000_000_000 + 1_000_000_000 → l ≤ n
+    go n g = omega (arith, mul-le-mul (p .least) (q .least))
+
+pub sum-from : {x y : Ends} {a b : ℕ} → From x a → From y b → From (sumOf x y) (a + b)
+unfolding sumOf
+sum-from p q = record { least = omega (arith, p .least, q .least) }
+
+-- two pairs from l on that are both at most b
+pub span-sized : {x y : Ends} {v A w B : ℕ} → Sized x v A → Sized y w B → (l b k : ℕ) → From x l → From y l → A ≤ b → B ≤ b →
+    b ≤ l + k → Sized (spanOf x y) k b
+unfolding spanOf
+span-sized p q l b k f g hA hB h = record {
+  order = omega (arith, p .order, q .order);
+  narrow = omega (arith, p .small, q .small, f .least, g .least);
+  small = omega (arith, p .small, q .small);
+}
+
+pub sum-takes : {x y : Ends} {w A v B : ℕ} → Sized x w A → Sized y v B → A + B < 2 ^ 63 → SumDomain x y
+sum-takes p q h = record { left = p .order; right = q .order; small = omega (arith, p .small, q .small) }
+
+pub sum-sized : {x y : Ends} {w A v B : ℕ} → Sized x w A → Sized y v B → Sized (sumOf x y) (w + v) (A + B)
+unfolding sumOf
+sum-sized p q = record {
+  order = omega (arith, p .order, q .order);
+  narrow = omega (arith, p .narrow, q .narrow);
+  small = omega (arith, p .small, q .small);
+}
 
 -- ---- what they hold
 
@@ -188,6 +235,35 @@ module _ {x y : Fraction} {a b : Ends} (h : Held x a) (k : Held y b) where
             from = between-low m (side-low (a .low) l p) (side-low (a .high) l (omega (arith, mul-le-mul-right (b .low) o)));
             to = between-high m (side-high (a .low) u (omega (arith, mul-le-mul-right (b .high) o))) (side-high (a .high) u q);
           }
+
+pub sum-held : {x y : Fraction} {a b : Ends} → Held x a → Held y b → Held (x +q y) (sumOf a b)
+unfolding sumOf
+sum-held {a = a} {b} h k =
+    lies-wider (lies-sum h k) (a .low + b .low) 0 (a .high + b .high) 0 (omega arith) (omega arith)
+
+-- ---- one over what lies between two ends above zero
+
+recip-low : (l n h d : ℕ) → n * 1_000_000_000 ≤ h * d → l * h ≤ 1_000_000_000_000_000_000 → l * n ≤ d * 1_000_000_000
+recip-low l n h d p q = omega (arith, mul-le-mul-left l p, mul-le-mul-right d q)
+
+recip-high : (u n l d : ℕ) → l * d ≤ n * 1_000_000_000 → 1_000_000_000_000_000_000 ≤ u * l → d * 1_000_000_000 ≤ u * n
+recip-high u n l d p q = omega (arith, mul-le-mul-left u p, mul-le-mul-right d q)
+
+held-above : {x : Fraction} {e : Ends} → Held x e → 0 < e .low → zeroQ <q x
+held-above {e = e} h some = <q-≤q-trans (lt-of zero-Is (units-Is (e .low) 0) (omega arith)) (h .from)
+
+pub recip-held : {x : Fraction} {e : Ends} → Held x e → 0 < e .low → (r : Ends) → r .low * e .high ≤ 1_000_000_000_000_000_000 →
+    1_000_000_000_000_000_000 ≤ r .high * e .low → Held (recipQ x) r
+recip-held {x} {e} h some r low high =
+    let a = above-zero x (held-above h some) in
+    let p = le-as (a .is) (units-Is (e .high) 0) (h .to) in
+    let q = le-as (units-Is (e .low) 0) (a .is) (h .from) in
+    let l = recip-low (r .low) (a .n) (e .high) (x .den) (omega (arith, p)) low in
+    let u = recip-high (r .high) (a .n) (e .low) (x .den) (omega (arith, q)) high in
+    record {
+      from = le-of (units-Is (r .low) 0) (a .turned) (omega (arith, l));
+      to = le-of (a .turned) (units-Is (r .high) 0) (omega (arith, u));
+    }
 
 -- ---- signed ends
 

@@ -35,6 +35,16 @@ productOf a b = record {
   high = a .high * b .high / 1_000_000_000 + 1;
 }
 
+-- ---- a sum
+
+pub record SumDomain (a b : Ends) : Type 0 where
+  pub left : a .low ≤ a .high
+  pub right : b .low ≤ b .high
+  pub small : a .high + b .high < 2 ^ 63
+
+unfoldable pub sumOf : Ends → Ends → Ends
+sumOf a b = record { low = a .low + b .low; high = a .high + b .high }
+
 -- ---- "the pair spans them all"
 
 unfoldable pub spanOf : Ends → Ends → Ends

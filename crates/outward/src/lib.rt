@@ -1,7 +1,7 @@
-// Products of what lies between two ends, none of them below zero, in units of 10^-9, rounded outward.
+// Steps with what lies between two ends, none of them below zero, in units of 10^-9, rounded outward.
 ghost use mathlib.Core.Path.{_≡_};
 ghost use Prim.Native.Nat.{min, max};
-ghost use Rattle.outward.specs.Evaluation.{MultipleDomain, ProductDomain, multipleOf, productOf, spanOf};
+ghost use Rattle.outward.specs.Evaluation.{MultipleDomain, ProductDomain, SumDomain, multipleOf, productOf, sumOf, spanOf};
 use logarithm::Ends;
 
 // c/20,000,000 of what lies between e's ends.
@@ -23,6 +23,17 @@ pub fn product(a: Ends, b: Ends) -> Ends
     Ends {
         low: a.low * b.low / 1_000_000_000,
         high: a.high * b.high / 1_000_000_000 + 1,
+    }
+}
+
+// What lies between a's ends and what lies between b's, added.
+pub fn sum(a: Ends, b: Ends) -> Ends
+    requires { ⌜ SumDomain a b ⌝ }
+    ensures { λ r. ⌜ r ≡ sumOf a b ⌝ }
+{
+    Ends {
+        low: a.low + b.low,
+        high: a.high + b.high,
     }
 }
 

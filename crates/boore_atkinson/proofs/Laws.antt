@@ -1,0 +1,203 @@
+-- What `medianOf`, `nonlinearEndsOf` and `sigmaOf` promise (specs/Promise).
+use mathlib.Core.Path.{_≡_, refl}
+use mathlib.Core.Bool.{Bool, true, false, cond}
+use Prim.Native.Nat.{ℕ, _+_, _*_, _-_, _≤_, _<_}
+use native.Mathlib.Omega.{arith}
+use lib.Dec.{leb, ltb, eqb}
+use lib.IntN.{pos, negℤ, _+ℤ_}
+use lib.Signed.{_≤ℤ_}
+use Rattle.signed.specs.declared.Ends as signed
+use Rattle.signed.specs.Evaluation.{betweenOf}
+use Rattle.signed.proofs.Whole.{up, down, zero-sub}
+use Rattle.exact.specs.Fraction.{Fraction, _over_, zeroQ, _-q_}
+use Rattle.exact.specs.Pair.{_∈_}
+use Rattle.exact.specs.Formula.{Formula, stated, ln, _⊕_, _⊗_, _⊘_, units, ends, Encloses}
+use Rattle.exact.proofs.FractionLaws.{over-Is}
+use Rattle.exact.proofs.Points.{Points, value, Sound, Positive, positive-ln, positive-product}
+use Rattle.exact.proofs.UnitLaws.{Lies, lies-wider, lies-stated}
+use Rattle.logarithm.specs.declared.Ends.{Ends}
+use Rattle.logarithm.proofs.Enclosure.{Known, encloses}
+use Rattle.outward.specs.Evaluation.{Sized, sumOf}
+use Rattle.outward.proofs.Laws.{HeldBelow, sized-wider, sum-sized, lies-between, narrow-between}
+use Rattle.boore_atkinson.specs.declared.Motion.{Motion}
+use Rattle.boore_atkinson.specs.Tables.{Site, Distance, Magnitude, Total, Row, rowAt, totalAt, pga}
+use Rattle.boore_atkinson.specs.Rock.{X, R, lnR, distanceTerm, onRock}
+use Rattle.boore_atkinson.specs.SiteTerm.{b1Of, b2Of, linearPart, bnl, x, y, c, d, lowPart, transition, highPart, nonlinearPart}
+use Rattle.boore_atkinson.specs.Median.{p, median, sigma}
+use Rattle.boore_atkinson.specs.Rows.{siteParts, distanceParts, magnitudeParts, SiteSigns, DistanceSigns, MagnitudeSigns}
+use Rattle.boore_atkinson.specs.Promise.{MedianDomain, NonlinearDomain, medianWidth, MedianEnds, NonlinearEnds, SigmaEnds}
+use Rattle.boore_atkinson.specs.Evaluation.{slantOf, rockOf, belowOf, linearOf, nonlinearOf, endsOf, plusOf, medianOf, nonlinearEndsOf, sigmaOf}
+use Rattle.boore_atkinson.specs.Sizes.{MotionSized}
+use Rattle.boore_atkinson.proofs.Rows.{site-limits, distance-limits, magnitude-limits}
+use Rattle.boore_atkinson.proofs.RockSizes.{Squares, squares, slant-domain, slant-sized, rock-sized, pga-order, below-sized}
+use Rattle.boore_atkinson.proofs.RockLaws.{Moves, plus-moves, rock-moves}
+use Rattle.boore_atkinson.proofs.SiteLaws.{linear-moves, slope-below}
+use Rattle.boore_atkinson.proofs.SiteSizes.{linear-sized, nonlinear-narrow}
+use Rattle.boore_atkinson.proofs.CurveLaws.{nonlinear-moves}
+
+-- ---- motions and their ends
+
+pub motion-wider : {a : Motion} {w b w' b' : ℕ} → MotionSized a w b → w ≤ w' → b ≤ b' → MotionSized a w' b'
+motion-wider s hw hb = record {
+  up = sized-wider (s .up) hw hb;
+  down = sized-wider (s .down) hw hb;
+  together = omega (arith, s .together);
+}
+
+pub plus-sized : {a b : Motion} {w A v B : ℕ} → MotionSized a w A → MotionSized b v B → MotionSized (plusOf a b) (w + v) (A + B)
+unfolding plusOf sumOf
+plus-sized p q = record {
+  up = sum-sized (p .up) (q .up);
+  down = sum-sized (p .down) (q .down);
+  together = omega (arith, p .together, q .together);
+}
+
+moves-in : {x : Fraction} (a : Motion) → Moves x a → x ∈ ends (endsOf a .low) (endsOf a .high)
+unfolding endsOf
+moves-in a h = lies-between h (a .up .low) (a .down .high) (a .up .high) (a .down .low) (omega arith) (omega arith)
+
+motion-narrow : (a : Motion) (w : ℕ) {v b : ℕ} → MotionSized a v b → v ≤ w → endsOf a .high ≤ℤ (endsOf a .low +ℤ pos w)
+unfolding endsOf
+motion-narrow a w s h =
+    narrow-between (a .up .low) (a .down .high) (a .up .high) (a .down .low) w (omega (arith, s .together))
+
+-- ---- logarithms are of numbers of at least 1, and divisors above zero
+
+rock-sound : (r : Row) (m : ℕ) {d : ℕ} (mechanism : ℕ) → Squares d (r .distance .h) → Sound (onRock r m d mechanism)
+unfolding Sound onRock distanceTerm R lnR
+rock-sound r m mechanism s =
+    let n = slant-domain s in
+    (((tt, (tt, (omega (arith, n .order), omega arith))), (tt, ((tt, tt), tt))), tt)
+
+slope-sound : (s : Site) {v : ℕ} → 1_800 ≤ v → Sound (bnl s v)
+unfolding Sound bnl
+slope-sound s {v} slow = go (leb v 1_800) (leb v 3_000) (ltb v 7_600)
+  where
+    go : (a b c : Bool) →
+        Sound
+        (cond a (stated (b1Of s))
+        (cond b (stated (b1Of s -q b2Of s) ⊗ ln 3_000 v ⊘ ln 3_000 1_800 ⊕ stated (b2Of s))
+        (cond c (stated (b2Of s) ⊗ ln 7_600 v ⊘ ln 7_600 3_000) (stated zeroQ))))
+    go true b c = tt
+    go false true c = (((tt, (omega arith, omega arith)), positive-ln (omega arith) (omega arith)), tt)
+    go false false true = ((tt, (omega arith, omega arith)), positive-ln (omega arith) (omega arith))
+    go false false false = tt
+
+x-positive : Positive x
+unfolding x
+x-positive = positive-ln (omega arith) (omega arith)
+
+nonlinear-sound : (slope q : Formula) → Sound slope → Sound q → Sound (nonlinearPart slope q)
+unfolding Sound nonlinearPart lowPart transition highPart c d y x
+nonlinear-sound slope q s t =
+    let first : (1 ≤ 3) × (1 ≤ 100) = (omega arith, omega arith) in
+    let second : (1 ≤ 9) × (1 ≤ 100) = (omega arith, omega arith) in
+    let low : Sound slope × ((1 ≤ 6) × (1 ≤ 10)) = (s, (omega arith, omega arith)) in
+    let top : (Unit {0} × (Sound slope × ((1 ≤ 15) × (1 ≤ 10)))) × (Sound slope × ((1 ≤ 3) × (1 ≤ 1))) =
+        ((tt, (s, (omega arith, omega arith))), (s, (omega arith, omega arith))) in
+    let square = positive-product x-positive x-positive in
+    let z : Sound q × ((1 ≤ 3) × (1 ≤ 100)) = (t, first) in
+    (t, first, low,
+    (t, second, (low, (((top, square), (z, z)), (((tt, top), positive-product square x-positive), ((z, z), z)))),
+    (s, (t, (omega arith, omega arith)))))
+
+-- ---- the nonlinear part
+
+-- wherever −p lies within b
+nonlinear-encloses : (s : Site) → SiteSigns s → {v : ℕ} → 1_800 ≤ v → v ≤ 13_000 → (q : Formula) (b : Ends) → Sound q →
+    ((σ : Points) → Known σ → HeldBelow (value σ q) b) →
+    let e = nonlinearEndsOf s v b in
+    Encloses (ends (e .low) (e .high)) (nonlinearPart (bnl s v) q)
+unfolding nonlinearEndsOf nonlinearOf
+nonlinear-encloses s l {v} slow fast q b sound h =
+    encloses (nonlinear-sound (bnl s v) q (slope-sound s slow) sound)
+    (λ σ known. moves-in _ (nonlinear-moves known (bnl s v) q (slope-below s l known slow fast) (h σ known)))
+
+-- the same for a p that is given
+below-of : {q : Fraction} (b : Ends) → q ∈ ends (negℤ (pos (b .high))) (negℤ (pos (b .low))) → HeldBelow q b
+unfolding ends
+below-of b h = record { from = rw (zero-sub (b .high)) (h .from); to = rw (zero-sub (b .low)) (h .to) }
+
+pub nonlinear-promise : {k v : ℕ} {b : Ends} → NonlinearDomain k v b →
+    NonlinearEnds (rowAt k .site) v b (nonlinearEndsOf (rowAt k .site) v b)
+unfolding Sound value
+nonlinear-promise {k} {v} {b} h = record {
+  encloses = λ q inside.
+      nonlinear-encloses (rowAt k .site) (site-limits k (h .row)) (h .slow) (h .fast) (stated q) b tt (λ σ known. below-of b inside);
+}
+
+-- ---- p
+
+p-below : {m d : ℕ} (mechanism : ℕ) → 500 ≤ m → m ≤ 800 → d ≤ 19_999 → {σ : Points} → Known σ →
+    HeldBelow (value σ (p m d mechanism)) (belowOf m d mechanism)
+unfolding p belowOf rockOf
+p-below {m} {d} mechanism least most near known =
+    let l = distance-limits 0 (omega arith) in
+    let o = pga-order m mechanism (slantOf d (pga .distance .h)) (l .sizes) in
+    let a = rock-moves pga l (magnitude-limits 0 (omega arith)) least most known near mechanism in
+    lies-wider a _ _ _ _ (omega (arith, o)) (omega (arith, o))
+
+-- ---- the median
+
+module _ (r : Row) (s : SiteSigns (r .site)) (l : DistanceSigns (r .distance)) (k : MagnitudeSigns (r .magnitude)) {m d v : ℕ}
+    (least : 500 ≤ m) (most : m ≤ 800) (near : d ≤ 19_999) (slow : 1_800 ≤ v) (fast : v ≤ 13_000) (mechanism : ℕ) where
+  abbrev rock : Motion
+  rock = rockOf (distanceParts (r .distance)) (magnitudeParts (r .magnitude)) m (slantOf d (r .distance .h)) mechanism
+
+  abbrev linear : Motion
+  linear = linearOf (siteParts (r .site)) v
+
+  abbrev nonlinear : Motion
+  nonlinear = nonlinearOf (siteParts (r .site)) v (belowOf m d mechanism)
+
+  fits : Squares d (r .distance .h)
+  fits = squares near (l .sizes .shallow) (l .sizes .deep)
+
+  rock-fits : MotionSized rock 4 80_000_000_000
+  rock-fits = rock-sized mechanism (l .sizes) (k .sizes) most (slant-sized fits)
+
+  pub total-sized : MotionSized (plusOf (plusOf rock linear) nonlinear) 49 98_538_000_001
+  total-sized =
+      plus-sized (plus-sized rock-fits (linear-sized (s .sizes) slow fast)) (nonlinear-narrow (s .sizes) slow (below-sized mechanism most near))
+
+  total-moves : (σ : Points) → Known σ → Moves (value σ (median r m d v mechanism)) (plusOf (plusOf rock linear) nonlinear)
+  unfolding value median nonlinearOf
+  total-moves σ known =
+      plus-moves (plus-moves (rock-moves r l k least most known near mechanism) (linear-moves (r .site) s known slow fast))
+      (nonlinear-moves known (bnl (r .site) v) (p m d mechanism) (slope-below (r .site) s known slow fast)
+      (p-below mechanism least most near known))
+
+  median-sound : Sound (median r m d v mechanism)
+  unfolding Sound median linearPart p
+  median-sound =
+      let own = distance-limits 0 (omega arith) .sizes in
+      let q = rock-sound pga m mechanism (squares near (own .shallow) (own .deep)) in
+      ((rock-sound r m mechanism fits, (tt, (omega arith, omega arith))), nonlinear-sound (bnl (r .site) v) _ (slope-sound (r .site) slow) q)
+
+  pub median-ends : MedianEnds r m d v mechanism (medianOf r m d v mechanism)
+  unfolding medianOf
+  median-ends = record {
+    encloses = encloses median-sound (λ σ known. moves-in _ (total-moves σ known));
+    narrow = motion-narrow _ medianWidth total-sized (omega arith);
+  }
+
+-- the promise of the median, by any row of the tables
+pub medianOf-promise : {k m d v : ℕ} (mechanism : ℕ) → MedianDomain k m d v →
+    MedianEnds (rowAt k) m d v mechanism (medianOf (rowAt k) m d v mechanism)
+medianOf-promise {k} mechanism h =
+    median-ends (rowAt k) (site-limits k (h .row)) (distance-limits k (h .row)) (magnitude-limits k (h .row)) (h .magnitude-low) (h .magnitude-high)
+    (h .near) (h .slow) (h .fast) mechanism
+
+-- ---- sigma
+
+pub sigmaOf-promise : (t : Total) (mechanism : ℕ) → SigmaEnds t mechanism (sigmaOf t mechanism)
+unfolding sigma sigmaOf Sound value betweenOf up down
+sigmaOf-promise t mechanism = record { encloses = encloses tt (λ σ known. held); equal = refl }
+  where
+    z : ℕ
+    z = cond (eqb mechanism 9) (t .σTU) (t .σTM)
+
+    held : pos z over 1_000 ∈ ends (betweenOf (1_000_000 * z) 0 (1_000_000 * z) 0 .low) (betweenOf (1_000_000 * z) 0 (1_000_000 * z) 0 .high)
+    held =
+        lies-between (lies-stated (over-Is (pos z) 1_000 (omega arith)) (1_000_000 * z) 0 (omega arith)) (1_000_000 * z) 0 (1_000_000 * z) 0
+        (omega arith) (omega arith)

@@ -1,0 +1,166 @@
+-- Sizes of what the motion on rock is made of.
+use mathlib.Core.Path.{_≡_, refl}
+use mathlib.Core.Bool.{Bool, true, false, cond}
+use Prim.Native.Nat.{ℕ, _+_, _*_, _-_, _/_, _^_, _≤_, _<_}
+use native.Mathlib.Nat.{mul-le-mul, mul-le-mul-left, mul-le-mul-right}
+use native.Mathlib.Omega.{arith}
+use borrow.Author.Tests.{leb-true, leb-false}
+use lib.Dec.{eqb, leb}
+use Rattle.signed.proofs.Whole.{up, down}
+use Rattle.logarithm.specs.Promise.{LnDomain}
+use Rattle.logarithm.specs.Evaluation.{rootOf}
+use Rattle.logarithm.proofs.Laws.{rootOf-small}
+use Rattle.outward.specs.Evaluation.{Sized, multipleOf}
+use Rattle.outward.proofs.Laws.{ln-sized, multiple-sized, sum-sized, sized-wider}
+use Rattle.boore_atkinson.specs.declared.rock.Slant.{Slant}
+use Rattle.boore_atkinson.specs.declared.rock.Exact.{Exact}
+use Rattle.boore_atkinson.specs.declared.table.DistanceRow.{DistanceRow}
+use Rattle.boore_atkinson.specs.declared.table.MagnitudeRow.{MagnitudeRow}
+use Rattle.boore_atkinson.specs.Tables.{rowAt, pga}
+use Rattle.boore_atkinson.specs.Rock.{X}
+use Rattle.boore_atkinson.specs.Rows.{distanceParts, magnitudeParts, DistanceLimits, MagnitudeLimits}
+use Rattle.boore_atkinson.specs.Evaluation.{kmOf, slantOf, spreadOf, fallOf, levelOf, magnitudeOf, rockOf, belowOf}
+use Rattle.boore_atkinson.specs.Sizes.{SlantSized, MagnitudeBounds, Small, MotionSized}
+use Rattle.boore_atkinson.proofs.Rows.{distance-limits, magnitude-limits}
+
+-- ---- R
+
+pub record Squares (d h : ℕ) : Type 0 where
+  pub distance : d * d ≤ 399_960_001
+  pub least : 10_000 ≤ h * h
+  pub depth : h * h ≤ 160_000
+
+pub squares : {d h : ℕ} → d ≤ 19_999 → 100 ≤ h → h ≤ 400 → Squares d h
+squares near shallow deep = record { distance = mul-le-mul near near; least = mul-le-mul shallow shallow; depth = mul-le-mul deep deep }
+
+pub slant-domain : {d h : ℕ} → Squares d h → LnDomain (X d h) 10_000
+slant-domain s = record { least = omega arith; order = omega (arith, s .least); small = omega (arith, s .distance, s .depth) }
+
+km-sized : {k : ℕ} → k < 2 ^ 32 → Sized (kmOf k) 78 330_000_000_000
+unfolding kmOf
+km-sized h = record { order = omega arith; narrow = omega arith; small = omega arith }
+
+pub slant-sized : {d h : ℕ} → Squares d h → SlantSized (slantOf d h)
+unfolding slantOf
+slant-sized s = record { ln = ln-sized (slant-domain s); km = km-sized (rootOf-small (slant-domain s .small)) }
+
+-- ---- the distance term
+
+pub record SpreadBounds (r : DistanceRow) (m : ℕ) : Type 0 where
+  pub order : r .1 * (m - 450) ≤ 100 * r .0 + r .2 * (m - 450)
+  pub most : 100 * r .0 + r .2 * (m - 450) ≤ 8_400_000
+
+pub spread-bounds : {r : DistanceRow} {m : ℕ} → DistanceLimits r → m ≤ 800 → SpreadBounds r m
+spread-bounds {r} {m} l high =
+    let away : m - 450 ≤ 350 = omega arith in
+    record {
+      order = omega (arith, mul-le-mul-left (r .1) away, l .spread-least);
+      most = omega (arith, mul-le-mul-left (r .2) away, l .spread-most);
+    }
+
+pub fall-sized : {r : DistanceRow} {m : ℕ} {s : Slant} → DistanceLimits r → m ≤ 800 → SlantSized s →
+    Sized (fallOf r m s) 4 12_700_000_000
+unfolding fallOf spreadOf
+fall-sized {r} {m} l high s =
+    let b = spread-bounds l high in
+    sized-wider
+    (sum-sized
+    (multiple-sized (spreadOf r m) (s .ln) 1 8_820_000_000 (omega (arith, b .most)) (omega (arith, b .most)))
+    (multiple-sized (200 * r .3) (s .km) 1 3_798_300_000 (omega (arith, l .c3)) (omega (arith, l .c3))))
+    (omega arith) (omega arith)
+
+-- ---- the magnitude term
+
+pub magnitude-bounds : {r : MagnitudeRow} {m : ℕ} → MagnitudeLimits r → m ≤ 800 → MagnitudeBounds r m
+magnitude-bounds {r} {m} l high =
+    let under : r .11 - m ≤ 850 = omega (arith, l .hinge) in
+    let over : m - r .11 ≤ 800 = omega arith in
+    let s : (r .11 - m) * (r .11 - m) ≤ 722_500 = mul-le-mul under under in
+    record { slope = mul-le-mul (l .e5) under; square = s; bow = mul-le-mul (l .e6) s; rise = mul-le-mul (l .e7) over }
+
+module _ {r : MagnitudeRow} (l : MagnitudeLimits r) where
+  pub level-small : (mechanism : ℕ) → Small (levelOf r mechanism) 3_000_000_000
+  unfolding levelOf
+  level-small mechanism = go (eqb mechanism 9) (eqb mechanism 0) (eqb mechanism 1)
+    where
+      go : (a b c : Bool) →
+          Small (cond a record { gain = 10_000 * r .0; loss = 10_000 * r .1 }
+          (cond b record { gain = 10_000 * r .2; loss = 10_000 * r .3 }
+          (cond c record { gain = 10_000 * r .4; loss = 10_000 * r .5 } record { gain = 10_000 * r .6; loss = 10_000 * r .7 }))) 3_000_000_000
+      go true b c = record { gain = omega (arith, l .e1-gain); loss = omega (arith, l .e1-loss) }
+      go false true c = record { gain = omega (arith, l .e2-gain); loss = omega (arith, l .e2-loss) }
+      go false false true = record { gain = omega (arith, l .e3-gain); loss = omega (arith, l .e3-loss) }
+      go false false false = record { gain = omega (arith, l .e4-gain); loss = omega (arith, l .e4-loss) }
+
+  pub magnitude-small : {m : ℕ} (mechanism : ℕ) → m ≤ 800 → Small (magnitudeOf r m mechanism) 60_000_000_000
+  unfolding magnitudeOf
+  magnitude-small {m} mechanism high = go (leb m (r .11)) (levelOf r mechanism) (level-small mechanism) (magnitude-bounds l high)
+    where
+      go : (c : Bool) (e : Exact) → Small e 3_000_000_000 → MagnitudeBounds r m →
+          Small (cond c record { gain = e .gain; loss = e .loss + 100 * (r .8 * (r .11 - m)) + r .9 * ((r .11 - m) * (r .11 - m)) }
+          record { gain = e .gain + 100 * (r .10 * (m - r .11)); loss = e .loss }) 60_000_000_000
+      go true e s b = record { gain = omega (arith, s .gain); loss = omega (arith, s .loss, b .slope, b .bow) }
+      go false e s b = record { gain = omega (arith, s .gain, b .rise); loss = omega (arith, s .loss) }
+
+-- ---- the motion on rock
+
+pub rock-sized : {r : DistanceRow} {q : MagnitudeRow} {m : ℕ} {s : Slant} (mechanism : ℕ) → DistanceLimits r →
+    MagnitudeLimits q → m ≤ 800 → SlantSized s → MotionSized (rockOf r q m s mechanism) 4 80_000_000_000
+unfolding rockOf
+rock-sized {r} {q} {m} {s} mechanism l k high z =
+    let f = fall-sized l high z in
+    let g = magnitude-small k mechanism high in
+    record {
+      up = record { order = omega arith; narrow = omega arith; small = omega (arith, g .gain, l .c3) };
+      down = record { order = omega (arith, f .order); narrow = omega (arith, f .narrow); small = omega (arith, f .small, g .loss) };
+      together = omega (arith, f .narrow);
+    }
+
+-- ---- the rock acceleration is below 1 g
+
+abbrev pgaMagnitude : MagnitudeRow
+pgaMagnitude = magnitudeParts (pga .magnitude)
+
+-- of the row PGA, no part of the magnitude term is above zero, and e is at most −0.5035
+record Falls (e : Exact) : Type 0 where
+  gain : e .gain ≤ 0
+  loss : 503_500_000 ≤ e .loss
+
+abbrev stated : ℕ → Exact
+stated e = record { gain = 10_000 * 0; loss = 10_000 * e }
+
+pga-level : (mechanism : ℕ) → Falls (levelOf pgaMagnitude mechanism)
+unfolding levelOf rowAt up down
+pga-level mechanism = go (eqb mechanism 9) (eqb mechanism 0) (eqb mechanism 1)
+  where
+    go : (a b c : Bool) → Falls (cond a (stated 53_804) (cond b (stated 50_350) (cond c (stated 75_472) (stated 50_970))))
+    go true b c = record { gain = omega arith; loss = omega arith }
+    go false true c = record { gain = omega arith; loss = omega arith }
+    go false false true = record { gain = omega arith; loss = omega arith }
+    go false false false = record { gain = omega arith; loss = omega arith }
+
+pga-magnitude : (m mechanism : ℕ) → Falls (magnitudeOf pgaMagnitude m mechanism)
+unfolding magnitudeOf rowAt up down
+pga-magnitude m mechanism = go (leb m 675) (levelOf pgaMagnitude mechanism) (pga-level mechanism)
+  where
+    go : (c : Bool) (e : Exact) → Falls e →
+        Falls (cond c record { gain = e .gain; loss = e .loss + 100 * (28_805 * (675 - m)) + 10_164 * ((675 - m) * (675 - m)) }
+        record { gain = e .gain + 100 * (0 * (m - 675)); loss = e .loss })
+    go true e f = record { gain = f .gain; loss = omega (arith, f .loss) }
+    go false e f = record { gain = omega (arith, f .gain); loss = f .loss }
+
+-- so −p is above zero
+pub pga-order : {r : DistanceRow} (m mechanism : ℕ) (s : Slant) → DistanceLimits r →
+    let a = rockOf r pgaMagnitude m s mechanism in
+    a .up .low ≤ a .down .low
+unfolding rockOf
+pga-order m mechanism s l = let f = pga-magnitude m mechanism in omega (arith, f .gain, f .loss, l .c3)
+
+pub below-sized : {m d : ℕ} (mechanism : ℕ) → m ≤ 800 → d ≤ 19_999 → Sized (belowOf m d mechanism) 4 80_000_000_000
+unfolding belowOf
+below-sized {m} {d} mechanism high near =
+    let l = distance-limits 0 (omega arith) .sizes in
+    let s = slant-sized (squares near (l .shallow) (l .deep)) in
+    let a = rock-sized mechanism l (magnitude-limits 0 (omega arith) .sizes) high s in
+    let o = pga-order m mechanism (slantOf d (pga .distance .h)) l in
+    record { order = omega (arith, a .down .order); narrow = omega (arith, a .down .narrow, o); small = omega (arith, a .down .small) }

@@ -1,0 +1,130 @@
+-- Signs and sizes of the coefficients: one test over all rows of each table. And the rows are those of the periods.
+use mathlib.Core.Path.{_≡_, refl}
+use mathlib.Core.Bool.{Bool}
+use mathlib.Core.List.{List, [], _∷_, map}
+use Prim.Native.Nat.{ℕ, _+_, _*_, _<_}
+use native.Mathlib.Omega.{arith}
+use lib.Dec.{T}
+use lib.ListN.{length, getD}
+use Rattle.signed.proofs.Whole.{up, down}
+use Rattle.exact.proofs.Tests.{every, every-at, allLe, AllLe, all-le}
+use Rattle.scenario.specs.Refusal.{booreAtkinson}
+use Rattle.boore_atkinson.specs.declared.table.SiteRow.{SiteRow}
+use Rattle.boore_atkinson.specs.declared.table.DistanceRow.{DistanceRow}
+use Rattle.boore_atkinson.specs.declared.table.MagnitudeRow.{MagnitudeRow}
+use Rattle.boore_atkinson.specs.Tables.{Site, Distance, Magnitude, Total, table3, table6, table7, table8, rowAt}
+use Rattle.boore_atkinson.specs.Rows.{siteParts, distanceParts, magnitudeParts, SiteSigns, DistanceSigns, MagnitudeSigns}
+
+-- the limits, each as two numbers in order
+
+abbrev siteLimits : Site → List (ℕ × ℕ)
+siteLimits r =
+    let p : SiteRow = siteParts r in
+    (p .0, 750) ∷ (p .1, 640) ∷ (p .2, 19) ∷ (10 * p .2, p .1) ∷ (p .1, 530 + 10 * p .2) ∷
+    (up (r .blin), 0) ∷ (up (r .b1), 0) ∷ (up (r .b2), 0) ∷ []
+
+abbrev distanceLimits : Distance → List (ℕ × ℕ)
+distanceLimits r =
+    let p : DistanceRow = distanceParts r in
+    (p .1 * 350, 100 * p .0) ∷ (100 * p .0 + p .2 * 350, 8_400_000) ∷ (p .3, 1_151) ∷ (100, p .4) ∷ (p .4, 400) ∷
+    (up (r .c1), 0) ∷ (up (r .c3), 0) ∷ []
+
+abbrev magnitudeLimits : Magnitude → List (ℕ × ℕ)
+magnitudeLimits r =
+    let p : MagnitudeRow = magnitudeParts r in
+    (p .0, 300_000) ∷ (p .1, 300_000) ∷ (p .2, 300_000) ∷ (p .3, 300_000) ∷ (p .4, 300_000) ∷ (p .5, 300_000) ∷
+    (p .6, 300_000) ∷ (p .7, 300_000) ∷ (p .8, 130_000) ∷ (p .9, 50_000) ∷ (p .10, 80_000) ∷ (p .11, 850) ∷
+    (down (r .e5), 0) ∷ (up (r .e6), 0) ∷ (down (r .e7), 0) ∷ []
+
+site-signs : (r : Site) → AllLe (siteLimits r) → SiteSigns r
+site-signs r h = record {
+  sizes = record { blin = omega arith; b1 = omega arith; b2 = omega arith; order = omega arith; apart = omega arith };
+  blin-below = omega arith;
+  b1-below = omega arith;
+  b2-below = omega arith;
+}
+
+distance-signs : (r : Distance) → AllLe (distanceLimits r) → DistanceSigns r
+distance-signs r h = record {
+  sizes = record {
+    spread-least = omega arith;
+    spread-most = omega arith;
+    c3 = omega arith;
+    shallow = omega arith;
+    deep = omega arith;
+  };
+  c1-below = omega arith;
+  c3-below = omega arith;
+}
+
+magnitude-signs : (r : Magnitude) → AllLe (magnitudeLimits r) → MagnitudeSigns r
+magnitude-signs r h = record {
+  sizes = record {
+    e1-gain = omega arith;
+    e1-loss = omega arith;
+    e2-gain = omega arith;
+    e2-loss = omega arith;
+    e3-gain = omega arith;
+    e3-loss = omega arith;
+    e4-gain = omega arith;
+    e4-loss = omega arith;
+    e5 = omega arith;
+    e6 = omega arith;
+    e7 = omega arith;
+    hinge = omega arith;
+  };
+  e5-above = omega arith;
+  e6-below = omega arith;
+  e7-above = omega arith;
+}
+
+-- ---- one test over a table
+
+module _ {A : Type 0} (limits : A → List (ℕ × ℕ)) where
+  abbrev test : ℕ → A → Bool
+  test k r = allLe (limits r)
+
+  -- every row of a table is within the limits
+  abbrev Within : List A → Type 0
+  Within rows = T (every test 0 rows)
+
+  row-within : (none : A) (rows : List A) → Within rows → (k : ℕ) → k < length rows → AllLe (limits (getD rows k none))
+  row-within none rows t k h = all-le (limits (getD rows k none)) (every-at test none 0 rows t k h)
+
+table3-within : Within siteLimits table3
+unfolding up down
+table3-within = tt
+
+table6-within : Within distanceLimits table6
+unfolding up down
+table6-within = tt
+
+table7-within : Within magnitudeLimits table7
+unfolding up down
+table7-within = tt
+
+pub site-limits : (k : ℕ) → k < 22 → SiteSigns (rowAt k .site)
+unfolding rowAt
+site-limits k h = site-signs _ (row-within siteLimits _ table3 table3-within k h)
+
+pub distance-limits : (k : ℕ) → k < 22 → DistanceSigns (rowAt k .distance)
+unfolding rowAt
+distance-limits k h = distance-signs _ (row-within distanceLimits _ table6 table6-within k h)
+
+pub magnitude-limits : (k : ℕ) → k < 22 → MagnitudeSigns (rowAt k .magnitude)
+unfolding rowAt
+magnitude-limits k h = magnitude-signs _ (row-within magnitudeLimits _ table7 table7-within k h)
+
+-- ---- the printed periods are those of the scenario's rows, in their order
+
+pub periods-3 : map (λ (r : Site). r .period) table3 ≡ (0 ∷ booreAtkinson .periods)
+periods-3 = refl
+
+pub periods-6 : map (λ (r : Distance). r .period) table6 ≡ (0 ∷ booreAtkinson .periods)
+periods-6 = refl
+
+pub periods-7 : map (λ (r : Magnitude). r .period) table7 ≡ (0 ∷ booreAtkinson .periods)
+periods-7 = refl
+
+pub periods-8 : map (λ (r : Total). r .period) table8 ≡ (0 ∷ booreAtkinson .periods)
+periods-8 = refl

@@ -1,0 +1,147 @@
+-- What median and sigma compute, in whole numbers of units of 10^-9. A change of the way of computing swaps these
+-- definitions behind their names; callers go by the laws of proofs/Laws, and never by this text.
+use mathlib.Core.Bool.{Bool, cond}
+use Prim.Native.Nat.{ℕ, _+_, _*_, _-_, _/_, min, max}
+use lib.Dec.{eqb, leb, ltb}
+use Rattle.signed.specs.declared.Ends as signed
+use Rattle.signed.specs.Evaluation.{betweenOf}
+use Rattle.logarithm.specs.declared.Ends.{Ends}
+use Rattle.logarithm.specs.Evaluation.{lnOf, rootOf}
+use Rattle.outward.specs.Evaluation.{multipleOf, productOf, sumOf, spanOf}
+use Rattle.boore_atkinson.specs.declared.Motion.{Motion}
+use Rattle.boore_atkinson.specs.declared.rock.Slant.{Slant}
+use Rattle.boore_atkinson.specs.declared.rock.Exact.{Exact}
+use Rattle.boore_atkinson.specs.declared.table.SiteRow.{SiteRow}
+use Rattle.boore_atkinson.specs.declared.table.DistanceRow.{DistanceRow}
+use Rattle.boore_atkinson.specs.declared.table.MagnitudeRow.{MagnitudeRow}
+use Rattle.boore_atkinson.specs.Tables.{Total, Site, Row, pga}
+use Rattle.boore_atkinson.specs.Rock.{X}
+use Rattle.boore_atkinson.specs.Rows.{siteParts, distanceParts, magnitudeParts}
+use Rattle.boore_atkinson.specs.Constants.{lnLow, lnA1, lnA2, lnTen, overSlow, overFast, cOver, dOver}
+
+-- equal ends
+abbrev pub exactly : ℕ → Ends
+exactly n = record { low = n; high = n }
+
+-- ---- on rock
+
+-- R, from the k of the root's lower value: 10^9/100/131072 = 78125/1024
+unfoldable pub kmOf : ℕ → Ends
+kmOf k = record { low = k * 78_125 / 1_024; high = (k + 1) * 78_125 / 1_024 + 1 }
+
+-- ln R² and R
+unfoldable pub slantOf : ℕ → ℕ → Slant
+slantOf d h = record { ln = lnOf (X d h) 10_000; km = kmOf (rootOf (X d h)) }
+
+-- −(c1 + c2 (M − Mref)), in 10^-7
+unfoldable pub spreadOf : DistanceRow → ℕ → ℕ
+spreadOf r m = 100 * r .0 + r .2 * (m - 450) - r .1 * (m - 450)
+
+-- −(c1 + c2 (M − Mref)) ln R − c3 R
+unfoldable pub fallOf : DistanceRow → ℕ → Slant → Ends
+fallOf r m s = sumOf (multipleOf (spreadOf r m) (s .ln)) (multipleOf (200 * r .3) (s .km))
+
+-- e
+unfoldable pub levelOf : MagnitudeRow → ℕ → Exact
+levelOf r mechanism =
+    cond (eqb mechanism 9) record { gain = 10_000 * r .0; loss = 10_000 * r .1 }
+    (cond (eqb mechanism 0) record { gain = 10_000 * r .2; loss = 10_000 * r .3 }
+    (cond (eqb mechanism 1) record { gain = 10_000 * r .4; loss = 10_000 * r .5 }
+    record { gain = 10_000 * r .6; loss = 10_000 * r .7 }))
+
+-- the magnitude term
+unfoldable pub magnitudeOf : MagnitudeRow → ℕ → ℕ → Exact
+magnitudeOf r m mechanism =
+    let e : Exact = levelOf r mechanism in
+    cond (leb m (r .11))
+    record { gain = e .gain; loss = e .loss + 100 * (r .8 * (r .11 - m)) + r .9 * ((r .11 - m) * (r .11 - m)) }
+    record { gain = e .gain + 100 * (r .10 * (m - r .11)); loss = e .loss }
+
+unfoldable pub rockOf : DistanceRow → MagnitudeRow → ℕ → Slant → ℕ → Motion
+rockOf r q m s mechanism =
+    let f : Ends = fallOf r m s in
+    let g : Exact = magnitudeOf q m mechanism in
+    record {
+      up = exactly (g .gain + 10_000 * r .3);
+      down = record { low = g .loss + f .low; high = g .loss + f .high };
+    }
+
+-- −p
+unfoldable pub belowOf : ℕ → ℕ → ℕ → Ends
+belowOf m d mechanism =
+    let a : Motion = rockOf (distanceParts (pga .distance)) (magnitudeParts (pga .magnitude)) m (slantOf d (pga .distance .h)) mechanism in
+    record { low = a .down .low - a .up .low; high = a .down .high - a .up .low }
+
+-- ---- the site term
+
+unfoldable pub linearOf : SiteRow → ℕ → Motion
+linearOf s v =
+    cond (ltb v 7_600)
+    record { up = multipleOf (20_000 * s .0) (lnOf 7_600 v); down = exactly 0 }
+    record { up = exactly 0; down = multipleOf (20_000 * s .0) (lnOf v 7_600) }
+
+-- −bnl from 180 to 300 m/s, and from 300 to 760
+unfoldable pub slowSlopeOf : SiteRow → ℕ → Ends
+slowSlopeOf s v =
+    sumOf (multipleOf (20_000 * (s .1 - 10 * s .2)) (productOf (lnOf 3_000 v) overSlow)) (exactly (10_000_000 * s .2))
+
+unfoldable pub fastSlopeOf : SiteRow → ℕ → Ends
+fastSlopeOf s v = multipleOf (200_000 * s .2) (productOf (lnOf 7_600 v) overFast)
+
+-- −bnl
+unfoldable pub slopeOf : SiteRow → ℕ → Ends
+slopeOf s v =
+    cond (leb v 1_800) (exactly (1_000_000 * s .1))
+    (cond (leb v 3_000) (slowSlopeOf s v) (cond (ltb v 7_600) (fastSlopeOf s v) (exactly 0)))
+
+-- z = p − ln 0.03 in the middle branch, where p is above ln 0.03 and up to ln 0.09
+unfoldable pub zOf : Ends → Ends
+zOf b = record { low = lnA1 .low - b .high; high = lnA1 .high - max (b .low) (lnA2 .low) }
+
+-- c z² + d z³ over the slope
+unfoldable pub cubicOf : Ends → Ends
+cubicOf z =
+    let square : Ends = productOf z z in
+    sumOf (productOf cOver square) (productOf dOver (productOf square z))
+
+-- p − ln 0.1 − ln(0.06/0.1) in the upper branch, where p is above ln 0.09
+unfoldable pub straightOf : Ends → Ends
+straightOf b = record {
+  low = lnLow .low + lnTen .low - min (b .high) (lnA2 .high);
+  high = lnLow .high + lnTen .high - b .low;
+}
+
+-- A where −p, which lies in b, is from t on, B where it is below t, and both where either may be
+unfoldable pub branchOf : Ends → Ends → Ends → Ends → Ends
+branchOf b t A B = cond (leb (t .low) (b .high)) (cond (ltb (b .low) (t .high)) (spanOf A B) A) B
+
+-- what the nonlinear part has beside bnl ln(0.06/0.1), over the slope
+unfoldable pub curveOf : Ends → Ends
+curveOf b = branchOf b lnA1 (exactly 0) (branchOf b lnA2 (cubicOf (zOf b)) (straightOf b))
+
+unfoldable pub nonlinearOf : SiteRow → ℕ → Ends → Motion
+nonlinearOf s v b =
+    let n : Ends = slopeOf s v in
+    record { up = productOf n lnLow; down = productOf n (curveOf b) }
+
+-- ---- sums
+
+unfoldable pub endsOf : Motion → signed.Ends
+endsOf a = betweenOf (a .up .low) (a .down .high) (a .up .high) (a .down .low)
+
+unfoldable pub plusOf : Motion → Motion → Motion
+plusOf a b = record { up = sumOf (a .up) (b .up); down = sumOf (a .down) (b .down) }
+
+unfoldable pub medianOf : Row → ℕ → ℕ → ℕ → ℕ → signed.Ends
+medianOf r m d v mechanism =
+    let rock : Motion = rockOf (distanceParts (r .distance)) (magnitudeParts (r .magnitude)) m (slantOf d (r .distance .h)) mechanism in
+    let s : SiteRow = siteParts (r .site) in
+    endsOf (plusOf (plusOf rock (linearOf s v)) (nonlinearOf s v (belowOf m d mechanism)))
+
+unfoldable pub nonlinearEndsOf : Site → ℕ → Ends → signed.Ends
+nonlinearEndsOf s v b = endsOf (nonlinearOf (siteParts s) v b)
+
+unfoldable pub sigmaOf : Total → ℕ → signed.Ends
+sigmaOf t mechanism =
+    let z : ℕ = 1_000_000 * cond (eqb mechanism 9) (t .σTU) (t .σTM) in
+    betweenOf z 0 z 0

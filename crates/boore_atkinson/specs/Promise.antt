@@ -1,0 +1,50 @@
+-- What is promised of the ends of median, sigma and nonlinear part, whatever the engine computes. proofs/Laws shows it of
+-- `medianOf`, `sigmaOf` and `nonlinearEndsOf`, which the contracts name; nobody has to read those to believe it.
+use mathlib.Core.Path.{_≡_}
+use Prim.Native.Nat.{ℕ, _≤_, _<_}
+use lib.IntN.{pos, negℤ, _+ℤ_}
+use lib.Signed.{_≤ℤ_}
+use Rattle.signed.specs.declared.Ends.{Ends}
+use Rattle.exact.specs.Fraction.{Fraction}
+use Rattle.exact.specs.Pair.{_∈_}
+use Rattle.exact.specs.Formula.{stated, ends, Encloses}
+use Rattle.logarithm.specs.declared.Ends as natural
+use Rattle.scenario.specs.Refusal.{booreAtkinson}
+use Rattle.boore_atkinson.specs.Tables.{Site, Total, Row}
+use Rattle.boore_atkinson.specs.SiteTerm.{bnl, nonlinearPart}
+use Rattle.boore_atkinson.specs.Median.{median, sigma}
+
+-- the arguments of the median: a row of the tables, and numbers within the limits of the model
+pub record MedianDomain (k magnitude projectionDistance velocity : ℕ) : Type 0 where
+  pub row : k < 22
+  pub magnitude-low : booreAtkinson .magnitude .low ≤ magnitude
+  pub magnitude-high : magnitude ≤ booreAtkinson .magnitude .high
+  pub near : projectionDistance ≤ booreAtkinson .distance .high
+  pub slow : booreAtkinson .velocity .low ≤ velocity
+  pub fast : velocity ≤ booreAtkinson .velocity .high
+
+-- the arguments of the nonlinear part: −p lies between the ends of b, so that p is at most 0
+pub record NonlinearDomain (k velocity : ℕ) (b : natural.Ends) : Type 0 where
+  pub row : k < 22
+  pub slow : booreAtkinson .velocity .low ≤ velocity
+  pub fast : velocity ≤ booreAtkinson .velocity .high
+  pub order : b .low ≤ b .high
+
+-- how far the ends of the median are apart at most; demand 3 allows 2,000
+abbrev pub medianWidth : ℕ
+medianWidth = 49
+
+-- e encloses the median by the row r, at every fineness, and is narrow
+pub record MedianEnds (r : Row) (magnitude projectionDistance velocity mechanism : ℕ) (e : Ends) : Type 0 where
+  pub encloses : Encloses (ends (e .low) (e .high)) (median r magnitude projectionDistance velocity mechanism)
+  pub narrow : e .high ≤ℤ (e .low +ℤ pos medianWidth)
+
+-- e encloses the nonlinear part for every p of a pair, at every fineness
+pub record NonlinearEnds (s : Site) (velocity : ℕ) (b : natural.Ends) (e : Ends) : Type 0 where
+  pub encloses : (p : Fraction) → p ∈ ends (negℤ (pos (b .high))) (negℤ (pos (b .low))) →
+      Encloses (ends (e .low) (e .high)) (nonlinearPart (bnl s velocity) (stated p))
+
+-- e encloses sigma, at every fineness; "Its two ends are equal"
+pub record SigmaEnds (t : Total) (mechanism : ℕ) (e : Ends) : Type 0 where
+  pub encloses : Encloses (ends (e .low) (e .high)) (sigma t mechanism)
+  pub equal : e .high ≡ e .low

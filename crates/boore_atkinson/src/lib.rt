@@ -1,0 +1,78 @@
+// The median and sigma of Boore and Atkinson 2008, each by two ends that enclose the exact value, in units of 10^-9.
+ghost use mathlib.Core.Path.{_≡_};
+ghost use Prim.Native.Nat.{_<_};
+ghost use Rattle.boore_atkinson.specs.Tables.{rowAt, totalAt};
+ghost use Rattle.boore_atkinson.specs.Promise.{MedianDomain, NonlinearDomain};
+ghost use Rattle.boore_atkinson.specs.Evaluation.{plusOf, endsOf, medianOf, nonlinearEndsOf, sigmaOf};
+ghost use Rattle.boore_atkinson.specs.Sizes.{MotionSized};
+
+mod rock;
+mod site;
+mod table;
+
+use signed::between;
+
+// Something between up's ends, less something between down's.
+pub struct Motion {
+    pub up: logarithm::Ends,
+    pub down: logarithm::Ends,
+}
+
+fn plus(a: Motion, b: Motion) -> Motion
+    requires { ⌜ MotionSized a 200_000_000_000 200_000_000_000 × MotionSized b 200_000_000_000 200_000_000_000 ⌝ }
+    ensures { λ r. ⌜ r ≡ plusOf a b ⌝ }
+{
+    Motion {
+        up: outward::sum(a.up, b.up),
+        down: outward::sum(a.down, b.down),
+    }
+}
+
+fn ends(a: Motion) -> signed::Ends
+    requires { ⌜ MotionSized a 800_000_000_000 800_000_000_000 ⌝ }
+    ensures { λ r. ⌜ r ≡ endsOf a ⌝ }
+{
+    between(a.up.low, a.down.high, a.up.high, a.down.low)
+}
+
+// The median by row k of the tables, 0 for PGA. What is promised of it is MedianEnds of specs/Promise.
+pub fn median(
+    k: usize,
+    magnitude: u16,
+    projection_distance: u16,
+    velocity: u16,
+    mechanism: u8,
+) -> signed::Ends
+    requires { ⌜ MedianDomain k magnitude «projection_distance» velocity ⌝ }
+    ensures { λ r. ⌜ r ≡ medianOf (rowAt k) magnitude «projection_distance» velocity mechanism ⌝ }
+{
+    let m = magnitude as u64;
+    let d = projection_distance as u64;
+    let v = velocity as u64;
+    let row = table::distance_at(k);
+    let slant = rock::slant_distance(d, row.4 as u64);
+    let motion = rock::rock(row, table::magnitude_at(k), m, slant, mechanism);
+    let s = table::site_at(k);
+    let linear = site::linear(s, v);
+    let nonlinear = site::nonlinear_part(s, v, rock::below(m, d, mechanism));
+    ends(plus(plus(motion, linear), nonlinear))
+}
+
+// The nonlinear part by row k, where −p lies in b. What is promised of it is NonlinearEnds of specs/Promise.
+pub fn nonlinear(k: usize, velocity: u16, b: logarithm::Ends) -> signed::Ends
+    requires { ⌜ NonlinearDomain k velocity b ⌝ }
+    ensures { λ r. ⌜ r ≡ nonlinearEndsOf (rowAt k .site) velocity b ⌝ }
+{
+    ends(site::nonlinear_part(table::site_at(k), velocity as u64, b))
+}
+
+// Sigma by row k. What is promised of it is SigmaEnds of specs/Promise.
+pub fn sigma(k: usize, mechanism: u8) -> signed::Ends
+    requires { ⌜ k < 22 ⌝ }
+    ensures { λ r. ⌜ r ≡ sigmaOf (totalAt k) mechanism ⌝ }
+{
+    let t = table::total_at(k);
+    let total = if mechanism == 9 { t.0 } else { t.1 };
+    let z = 1_000_000 * total as u64;
+    between(z, 0, z, 0)
+}
