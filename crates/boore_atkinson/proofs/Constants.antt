@@ -120,8 +120,8 @@ module _ {σ : Points} (known : Known σ) where
   unfolding up down
   top-d =
       let twice =
-          lies-multiple (over-Is (pos 2) 1 (omega arith)) half-held 810_930_216 0 810_930_218 0 (omega arith) (omega arith)
-          (omega arith) (omega arith) in
+      lies-multiple (over-Is (pos 2) 1 (omega arith)) half-held 810_930_216 0 810_930_218 0 (omega arith) (omega arith)
+      (omega arith) (omega arith) in
       lies-multiple (over-Is (negℤ (pos 1)) 1 (omega arith)) (lies-difference twice three-held) 287_682_070 0 287_682_073 0
       (omega arith) (omega arith) (omega arith) (omega arith)
 

@@ -94,12 +94,19 @@ nonlinear-sound slope q s t =
     let second : (1 ≤ 9) × (1 ≤ 100) = (omega arith, omega arith) in
     let low : Sound slope × ((1 ≤ 6) × (1 ≤ 10)) = (s, (omega arith, omega arith)) in
     let top : (Unit {0} × (Sound slope × ((1 ≤ 15) × (1 ≤ 10)))) × (Sound slope × ((1 ≤ 3) × (1 ≤ 1))) =
-        ((tt, (s, (omega arith, omega arith))), (s, (omega arith, omega arith))) in
+    ((tt, (s, (omega arith, omega arith))), (s, (omega arith, omega arith))) in
     let square = positive-product x-positive x-positive in
-    let z : Sound q × ((1 ≤ 3) × (1 ≤ 100)) = (t, first) in
-    (t, first, low,
-    (t, second, (low, (((top, square), (z, z)), (((tt, top), positive-product square x-positive), ((z, z), z)))),
-    (s, (t, (omega arith, omega arith)))))
+    let z : Sound q × ((1 ≤ 3) × (1 ≤ 100)) = (t, first) in (
+      t,
+      first,
+      low,
+      (
+        t,
+        second,
+        (low, (((top, square), (z, z)), (((tt, top), positive-product square x-positive), ((z, z), z)))),
+        (s, (t, (omega arith, omega arith))),
+      ),
+    )
 
 -- ---- the nonlinear part
 

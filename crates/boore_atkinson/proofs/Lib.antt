@@ -6,3 +6,4 @@ pub mod SiteLaws
 pub mod CurveLaws
 pub mod SiteSizes
 pub mod Laws
+pub mod Sums

@@ -73,9 +73,9 @@ module _ (r : Distance) (l : DistanceSigns r) {m : ℕ} (least : 500 ≤ m) (mos
   spread-Is =
       let b = spread-bounds (l .sizes) most in
       let i =
-          mul-Is
-          (add-Is (over-below (r .c1) 100_000 (omega arith) (l .c1-below))
-          (mul-Is (over-Is (r .c2) 100_000 (omega arith)) (away-Is least))) (over-Is (pos 1) 2 (omega arith)) in
+      mul-Is
+      (add-Is (over-below (r .c1) 100_000 (omega arith) (l .c1-below))
+      (mul-Is (over-Is (r .c2) 100_000 (omega arith)) (away-Is least))) (over-Is (pos 1) 2 (omega arith)) in
       record { value = omega (arith, i .value, b .order); scale = omega (arith, i .scale) }
 
   module _ {σ : Points} (known : Known σ) {d : ℕ} (near : d ≤ 19_999) where

@@ -58,16 +58,19 @@ spread-bounds {r} {m} l high =
       most = omega (arith, mul-le-mul-left (r .2) away, l .spread-most);
     }
 
-pub fall-sized : {r : DistanceRow} {m : ℕ} {s : Slant} → DistanceLimits r → m ≤ 800 → SlantSized s →
-    Sized (fallOf r m s) 4 12_700_000_000
-unfolding fallOf spreadOf
-fall-sized {r} {m} l high s =
-    let b = spread-bounds l high in
-    sized-wider
-    (sum-sized
-    (multiple-sized (spreadOf r m) (s .ln) 1 8_820_000_000 (omega (arith, b .most)) (omega (arith, b .most)))
-    (multiple-sized (200 * r .3) (s .km) 1 3_798_300_000 (omega (arith, l .c3)) (omega (arith, l .c3))))
-    (omega arith) (omega arith)
+module _ {r : DistanceRow} {m : ℕ} {s : Slant} (l : DistanceLimits r) (high : m ≤ 800) (z : SlantSized s) where
+  pub near-sized : Sized (multipleOf (spreadOf r m) (s .ln)) 2 8_820_000_001
+  unfolding spreadOf
+  near-sized =
+      let b = spread-bounds l high in
+      multiple-sized (spreadOf r m) (z .ln) 1 8_820_000_000 (omega (arith, b .most)) (omega (arith, b .most))
+
+  pub far-sized : Sized (multipleOf (200 * r .3) (s .km)) 2 3_798_300_001
+  far-sized = multiple-sized (200 * r .3) (z .km) 1 3_798_300_000 (omega (arith, l .c3)) (omega (arith, l .c3))
+
+  pub fall-sized : Sized (fallOf r m s) 4 12_700_000_000
+  unfolding fallOf
+  fall-sized = sized-wider (sum-sized near-sized far-sized) (omega arith) (omega arith)
 
 -- ---- the magnitude term
 

@@ -21,6 +21,12 @@ use Rattle.boore_atkinson.proofs.SiteLaws.{ln-domain}
 pub exactly-sized : (n b : ℕ) → n ≤ b → Sized (exactly n) 0 b
 exactly-sized n b h = record { order = omega arith; narrow = omega arith; small = h }
 
+pub over-slow-sized : Sized overSlow 4 1_957_615_192
+over-slow-sized = record { order = omega arith; narrow = omega arith; small = omega arith }
+
+pub over-fast-sized : Sized overFast 2 1_075_805_612
+over-fast-sized = record { order = omega arith; narrow = omega arith; small = omega arith }
+
 -- ---- the linear part
 
 module _ {s : SiteRow} (l : SiteLimits s) {v : ℕ} (slow : 1_800 ≤ v) where
@@ -51,29 +57,30 @@ module _ {s : SiteRow} (l : SiteLimits s) {v : ℕ} (slow : 1_800 ≤ v) where
 
   -- ---- the slope
 
+  pub slow-ln : v ≤ 3_000 → Sized (lnOf 3_000 v) 2 666_666_669
+  slow-ln h = ln-sized-by (ln-domain (omega arith) h (omega arith)) 666_666_667 (omega arith)
+
   pub slow-ratio : v ≤ 3_000 → Sized (productOf (lnOf 3_000 v) overSlow) 8 1_305_076_801
-  slow-ratio h =
-      product-sized (ln-sized-by (ln-domain (omega arith) h (omega arith)) 666_666_667 (omega arith)) divisor 7 1_305_076_800
-      (omega arith) (omega arith)
-    where
-      divisor : Sized overSlow 4 1_957_615_192
-      divisor = record { order = omega arith; narrow = omega arith; small = omega arith }
+  slow-ratio h = product-sized (slow-ln h) over-slow-sized 7 1_305_076_800 (omega arith) (omega arith)
+
+  pub slow-term : v ≤ 3_000 →
+      Sized (multipleOf (20_000 * (s .1 - 10 * s .2)) (productOf (lnOf 3_000 v) overSlow)) 6 691_690_706
+  slow-term h =
+      let f : 20_000 * (s .1 - 10 * s .2) ≤ 10_600_000 = omega (arith, l .apart) in
+      multiple-sized (20_000 * (s .1 - 10 * s .2)) (slow-ratio h) 5 691_690_705 (omega (arith, f)) (omega (arith, f))
+
+  pub level-sized : Sized (exactly (10_000_000 * s .2)) 0 190_000_000
+  level-sized = exactly-sized (10_000_000 * s .2) 190_000_000 (omega (arith, l .b2))
 
   pub slow-sized : v ≤ 3_000 → Sized (slowSlopeOf s v) 6 900_000_000
   unfolding slowSlopeOf
-  slow-sized h =
-      let f : 20_000 * (s .1 - 10 * s .2) ≤ 10_600_000 = omega (arith, l .apart) in
-      sized-wider
-      (sum-sized (multiple-sized (20_000 * (s .1 - 10 * s .2)) (slow-ratio h) 5 691_690_705 (omega (arith, f)) (omega (arith, f)))
-      (exactly-sized (10_000_000 * s .2) 190_000_000 (omega (arith, l .b2)))) (omega arith) (omega arith)
+  slow-sized h = sized-wider (sum-sized (slow-term h) level-sized) (omega arith) (omega arith)
+
+  pub fast-ln : 3_000 ≤ v → v ≤ 7_600 → Sized (lnOf 7_600 v) 2 1_533_333_336
+  fast-ln g h = ln-sized-by (ln-domain (omega arith) h (omega arith)) 1_533_333_334 (omega arith)
 
   pub fast-ratio : 3_000 ≤ v → v ≤ 7_600 → Sized (productOf (lnOf 7_600 v) overFast) 7 1_649_568_609
-  fast-ratio g h =
-      product-sized (ln-sized-by (ln-domain (omega arith) h (omega arith)) 1_533_333_334 (omega arith)) divisor 6 1_649_568_608
-      (omega arith) (omega arith)
-    where
-      divisor : Sized overFast 2 1_075_805_612
-      divisor = record { order = omega arith; narrow = omega arith; small = omega arith }
+  fast-ratio g h = product-sized (fast-ln g h) over-fast-sized 6 1_649_568_608 (omega arith) (omega arith)
 
   pub fast-sized : 3_000 ≤ v → v ≤ 7_600 → Sized (fastSlopeOf s v) 6 900_000_000
   unfolding fastSlopeOf
@@ -107,15 +114,32 @@ pub record CubicWidth (w k2 k3 kc kd : ℕ) : Type 0 where
   pub first : 97_587_424 * (k2 + 1) + 1_206_948_965 * 5 ≤ kc * 1_000_000_000
   pub second : 216_959_886 * (k3 + 1) + 1_325_968_968 * 4 ≤ kd * 1_000_000_000
 
-cubic-sized : (w k2 k3 kc kd : ℕ) {z : Ends} → CubicWidth w k2 k3 kc kd → Sized z w 1_098_612_290 →
-    Sized (cubicOf z) (kc + 1 + (kd + 1)) 405_465_120
-unfolding cubicOf
-cubic-sized w k2 k3 kc kd h z =
-    let square = product-sized z z k2 1_206_948_964 (h .square) (omega arith) in
-    let cube = product-sized square z k3 1_325_968_967 (h .cube) (omega arith) in
-    let c : Sized cOver 5 97_587_424 = record { order = omega arith; narrow = omega arith; small = omega arith } in
-    let d : Sized dOver 4 216_959_886 = record { order = omega arith; narrow = omega arith; small = omega arith } in
-    sum-sized (product-sized c square kc 117_783_041 (h .first) (omega arith)) (product-sized d cube kd 287_682_077 (h .second) (omega arith))
+pub c-sized : Sized cOver 5 97_587_424
+c-sized = record { order = omega arith; narrow = omega arith; small = omega arith }
+
+pub d-sized : Sized dOver 4 216_959_886
+d-sized = record { order = omega arith; narrow = omega arith; small = omega arith }
+
+module _ (w k2 k3 kc kd : ℕ) (h : CubicWidth w k2 k3 kc kd) {z : Ends} (s : Sized z w 1_098_612_290) where
+  pub square-sized : Sized (productOf z z) (k2 + 1) 1_206_948_965
+  square-sized = product-sized s s k2 1_206_948_964 (h .square) (omega arith)
+
+  pub cube-sized : Sized (productOf (productOf z z) z) (k3 + 1) 1_325_968_968
+  cube-sized = product-sized square-sized s k3 1_325_968_967 (h .cube) (omega arith)
+
+  pub first-sized : Sized (productOf cOver (productOf z z)) (kc + 1) 117_783_042
+  first-sized = product-sized c-sized square-sized kc 117_783_041 (h .first) (omega arith)
+
+  pub second-sized : Sized (productOf dOver (productOf (productOf z z) z)) (kd + 1) 287_682_078
+  second-sized = product-sized d-sized cube-sized kd 287_682_077 (h .second) (omega arith)
+
+  pub cubic-sized : Sized (cubicOf z) (kc + 1 + (kd + 1)) 405_465_120
+  unfolding cubicOf
+  cubic-sized = sum-sized first-sized second-sized
+
+-- no bound on z's width
+pub anyWidth : CubicWidth 1_098_612_290 2_413_897_928 3_977_906_898 235_566_087 863_046_233
+anyWidth = record { square = omega arith; cube = omega arith; first = omega arith; second = omega arith }
 
 -- ---- the branches
 
@@ -132,15 +156,14 @@ branch-cases Q b t A B from below both = go (leb (t .low) (b .high)) (ltb (b .lo
 
 -- no bound on p's pair
 module _ {b : Ends} (order : b .low ≤ b .high) where
-  z-sized : b .low < 3_506_557_898 → 2_407_945_608 ≤ b .high → Sized (zOf b) 1_098_612_290 1_098_612_290
+  pub z-sized : b .low < 3_506_557_898 → 2_407_945_608 ≤ b .high → Sized (zOf b) 1_098_612_290 1_098_612_290
   unfolding zOf
   z-sized h k = record { order = omega arith; narrow = omega arith; small = omega arith }
 
   pub transition-sized : b .low < 3_506_557_898 → 2_407_945_608 ≤ b .high → Sized (cubicOf (zOf b)) 2_820_000_000 2_820_000_000
   transition-sized h k =
-      sized-wider
-      (cubic-sized 1_098_612_290 2_413_897_928 3_977_906_898 235_566_087 863_046_233
-      (record { square = omega arith; cube = omega arith; first = omega arith; second = omega arith }) (z-sized h k)) (omega arith) (omega arith)
+      sized-wider (cubic-sized 1_098_612_290 2_413_897_928 3_977_906_898 235_566_087 863_046_233 anyWidth (z-sized h k)) (omega arith)
+      (omega arith)
 
   pub straight-sized : b .low < 2_407_945_609 → Sized (straightOf b) 2_820_000_000 2_820_000_000
   unfolding straightOf
@@ -183,9 +206,8 @@ unfolding cubicOf
 cubic-tiny z =
     let square = product-sized z z 1 1 (omega arith) (omega arith) in
     let cube = product-sized square z 1 1 (omega arith) (omega arith) in
-    let c : Sized cOver 5 97_587_424 = record { order = omega arith; narrow = omega arith; small = omega arith } in
-    let d : Sized dOver 4 216_959_886 = record { order = omega arith; narrow = omega arith; small = omega arith } in
-    sized-wider (sum-sized (product-sized c square 1 1 (omega arith) (omega arith)) (product-sized d cube 1 1 (omega arith) (omega arith)))
+    sized-wider
+    (sum-sized (product-sized c-sized square 1 1 (omega arith) (omega arith)) (product-sized d-sized cube 1 1 (omega arith) (omega arith)))
     (omega arith) (omega arith)
 
 module _ {b : Ends} {most : ℕ} (n : Sized b 4 most) where

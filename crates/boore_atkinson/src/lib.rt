@@ -1,6 +1,8 @@
 // The median and sigma of Boore and Atkinson 2008, each by two ends that enclose the exact value, in units of 10^-9.
 ghost use mathlib.Core.Path.{_≡_};
+ghost use mathlib.Core.Bool.{cond};
 ghost use Prim.Native.Nat.{_<_};
+ghost use lib.Dec.{eqb};
 ghost use Rattle.boore_atkinson.specs.Tables.{rowAt, totalAt};
 ghost use Rattle.boore_atkinson.specs.Promise.{MedianDomain, NonlinearDomain};
 ghost use Rattle.boore_atkinson.specs.Evaluation.{plusOf, endsOf, medianOf, nonlinearEndsOf, sigmaOf};
@@ -11,6 +13,7 @@ mod site;
 mod table;
 
 use signed::between;
+use table::TotalRow;
 
 // Something between up's ends, less something between down's.
 pub struct Motion {
@@ -19,7 +22,7 @@ pub struct Motion {
 }
 
 fn plus(a: Motion, b: Motion) -> Motion
-    requires { ⌜ MotionSized a 200_000_000_000 200_000_000_000 × MotionSized b 200_000_000_000 200_000_000_000 ⌝ }
+    requires { ⌜ MotionSized a 400_000_000_000 400_000_000_000 × MotionSized b 400_000_000_000 400_000_000_000 ⌝ }
     ensures { λ r. ⌜ r ≡ plusOf a b ⌝ }
 {
     Motion {
@@ -66,13 +69,21 @@ pub fn nonlinear(k: usize, velocity: u16, b: logarithm::Ends) -> signed::Ends
     ends(site::nonlinear_part(table::site_at(k), velocity as u64, b))
 }
 
+// The total for a fault type that is unspecified, code 9, or specified.
+fn total(t: TotalRow, mechanism: u8) -> u32
+    ensures { λ r. ⌜ r ≡ cond (eqb mechanism 9) (t .0) (t .1) ⌝ }
+{
+    if mechanism == 9 {
+        return t.0;
+    }
+    t.1
+}
+
 // Sigma by row k. What is promised of it is SigmaEnds of specs/Promise.
 pub fn sigma(k: usize, mechanism: u8) -> signed::Ends
     requires { ⌜ k < 22 ⌝ }
     ensures { λ r. ⌜ r ≡ sigmaOf (totalAt k) mechanism ⌝ }
 {
-    let t = table::total_at(k);
-    let total = if mechanism == 9 { t.0 } else { t.1 };
-    let z = 1_000_000 * total as u64;
+    let z = 1_000_000 * total(table::total_at(k), mechanism) as u64;
     between(z, 0, z, 0)
 }

@@ -5,7 +5,6 @@ ghost use Rattle.outward.specs.Evaluation.{Sized};
 ghost use Rattle.boore_atkinson.specs.Rows.{DistanceLimits, MagnitudeLimits};
 ghost use Rattle.boore_atkinson.specs.Evaluation.{slantOf, spreadOf, fallOf, levelOf, magnitudeOf, rockOf, belowOf};
 ghost use Rattle.boore_atkinson.specs.Sizes.{SlantSized, MagnitudeBounds, Small, MotionSized};
-
 use crate::Motion;
 use crate::table;
 use crate::table::DistanceRow;

@@ -6,7 +6,6 @@ ghost use Rattle.boore_atkinson.specs.Rows.{SiteLimits};
 ghost use Rattle.boore_atkinson.specs.Evaluation.{exactly, linearOf, slowSlopeOf, fastSlopeOf, slopeOf, zOf, cubicOf, straightOf, branchOf, curveOf, nonlinearOf};
 ghost use Rattle.boore_atkinson.specs.Constants.{lnA2};
 ghost use Rattle.boore_atkinson.specs.Sizes.{MotionSized};
-
 use crate::Motion;
 use crate::table::SiteRow;
 use logarithm::Ends;
@@ -22,18 +21,22 @@ const LN_LOW: Ends = Ends {
     low: 510_825_623,
     high: 510_825_624,
 };
+
 const OVER_SLOW: Ends = Ends {
     low: 1_957_615_188,
     high: 1_957_615_192,
 };
+
 const OVER_FAST: Ends = Ends {
     low: 1_075_805_610,
     high: 1_075_805_612,
 };
+
 const C_OVER: Ends = Ends {
     low: 97_587_419,
     high: 97_587_424,
 };
+
 const D_OVER: Ends = Ends {
     low: 216_959_882,
     high: 216_959_886,
@@ -70,7 +73,10 @@ fn slow_slope(s: SiteRow, v: u64) -> Ends
 {
     let ratio = product(logarithm::ln(3_000, v), OVER_SLOW);
     let b2 = s.2 as u64;
-    sum(multiple(20_000 * (s.1 as u64 - 10 * b2), ratio), exact(10_000_000 * b2))
+    sum(
+        multiple(20_000 * (s.1 as u64 - 10 * b2), ratio),
+        exact(10_000_000 * b2),
+    )
 }
 
 // −bnl from 300 to 760 m/s.
@@ -99,15 +105,22 @@ fn slope(s: SiteRow, v: u64) -> Ends
     exact(0)
 }
 
-// c z² + d z³ over the slope, where −p lies in b and p is above ln 0.03 and up to ln 0.09.
-fn transition(b: Ends) -> Ends
+// z = p − ln 0.03, where −p lies in b and p is above ln 0.03 and up to ln 0.09.
+fn height(b: Ends) -> Ends
     requires { ⌜ (b .low ≤ b .high) × (b .low < 3_506_557_898) × (2_407_945_608 ≤ b .high) ⌝ }
-    ensures { λ q. ⌜ (q ≡ cubicOf (zOf b)) × Sized q 2_820_000_000 2_820_000_000 ⌝ }
+    ensures { λ z. ⌜ (z ≡ zOf b) × Sized z 1_098_612_290 1_098_612_290 ⌝ }
 {
-    let z = Ends {
+    Ends {
         low: 3_506_557_897 - lesser(b.high, 3_506_557_897),
         high: 3_506_557_898 - greater(b.low, 2_407_945_608),
-    };
+    }
+}
+
+// c z² + d z³ over the slope.
+fn cubic(z: Ends) -> Ends
+    requires { ⌜ Sized z 1_098_612_290 1_098_612_290 ⌝ }
+    ensures { λ q. ⌜ (q ≡ cubicOf z) × Sized q 2_820_000_000 2_820_000_000 ⌝ }
+{
     let square = product(z, z);
     sum(product(C_OVER, square), product(D_OVER, product(square, z)))
 }
@@ -129,13 +142,13 @@ fn upper(b: Ends) -> Ends
     ensures { λ q. ⌜ (q ≡ branchOf b lnA2 (cubicOf (zOf b)) (straightOf b)) × Sized q 2_820_000_000 2_820_000_000 ⌝ }
 {
     if 2_407_945_609 <= b.low {
-        return transition(b);
+        return cubic(height(b));
     }
     let s = straight(b);
     if b.high < 2_407_945_608 {
         return s;
     }
-    span(transition(b), s)
+    span(cubic(height(b)), s)
 }
 
 // What the nonlinear part has beside bnl ln(0.06/0.1), over the slope: every branch that b reaches.

@@ -1,44 +1,48 @@
+-- `rock::below` meets its contract.
+use Prim.Native.Nat.{_≤_}
+use native.Mathlib.Omega.{arith}
 use borrow.Author.Needs.{needs}
+use Rattle.boore_atkinson.proofs.RockSizes.{pga-order, below-sized}
+use Rattle.boore_atkinson.proofs.Sums.{below-is}
 use Rattle.boore_atkinson.proofs.rock.below.Statement.{statement}
 use Rattle.boore_atkinson.proofs.rock.below.Tie as tie
-use Rattle.boore_atkinson.proofs.rock.below.Reads as reads
-use Rattle.boore_atkinson.proofs.rock.below.Lts as lts
-use Rattle.boore_atkinson.proofs.rock.rock.Reads as rock-reads
-use Rattle.boore_atkinson.proofs.rock.slant_distance.Reads as slant-distance-reads
-use Rattle.boore_atkinson.proofs.table.pga_distance.Reads as pga-distance-reads
-use Rattle.boore_atkinson.proofs.table.pga_magnitude.Reads as pga-magnitude-reads
 
--- src/rock.rt:130:9
 pga-distance-requires : tie.Need-pga-distance-requires
 pga-distance-requires c κs = search needs
 
--- src/rock.rt:131:49
 cast-slant-distance : tie.Need-cast-slant-distance
 cast-slant-distance c = search needs
 
--- src/rock.rt:131:9
 slant-distance-requires : tie.Need-slant-distance-requires
 slant-distance-requires c κs = search needs
 
--- src/rock.rt:132:21
 pga-magnitude-requires : tie.Need-pga-magnitude-requires
 pga-magnitude-requires c κs = search needs
 
--- src/rock.rt:132:9
 rock-requires : tie.Need-rock-requires
 rock-requires c κs = search needs
 
--- src/rock.rt:134:14
 sub-t7 : tie.Need-sub-t7
-sub-t7 c = ?
+sub-t7 c =
+    let a = c .before .before .before .before .before .before .args in
+    rw (c .before .rock .ensures .0, c .before .before .pga-magnitude .ensures .0) (pga-order (a .m) (a .mechanism) _ (c .before .before .before .before .before .pga-distance .ensures .1))
 
--- src/rock.rt:135:15
 sub-t9 : tie.Need-sub-t9
-sub-t9 c = ?
+sub-t9 c =
+    let a = c .before .before .before .before .before .before .before .args in
+    let r = c .before .before .rock in
+    let o : r .result .up .low ≤ r .result .down .low =
+    rw (r .ensures .0, c .before .before .before .pga-magnitude .ensures .0) (pga-order (a .m) (a .mechanism) _ (c .before .before .before .before .before .before .pga-distance .ensures .1)) in
+    omega (arith, o, r .ensures .1 .down .order)
 
--- src/rock.rt:126:1
 returns : tie.Need-returns
-returns c = ?
+returns c =
+    let a = c .before .before .before .before .before .before .before .args in
+    let p = c .before .before .before .before .before .before .before .pre in
+    let e =
+    below-is (a .m) (a .projection-distance) (a .mechanism) (c .before .before .before .before .before .before .pga-distance .ensures .0) (c .before .before .before .pga-magnitude .ensures .0) (c .before .before .before .before .slant-distance .ensures .0)
+    (c .before .before .rock .ensures .0) in
+    (e, rw e (below-sized (a .mechanism) (p .1) (p .2)))
 
 pub below-spec : {M : Type 1} → statement M
 below-spec =

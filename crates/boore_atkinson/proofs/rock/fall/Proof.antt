@@ -1,39 +1,40 @@
+-- `rock::fall` meets its contract.
+use native.Mathlib.Omega.{arith}
 use borrow.Author.Needs.{needs}
+use Rattle.outward.proofs.Laws.{multiple-takes, sum-takes}
+use Rattle.boore_atkinson.proofs.RockSizes.{near-sized, far-sized, fall-sized}
+use Rattle.boore_atkinson.proofs.Sums.{fall-is}
 use Rattle.boore_atkinson.proofs.rock.fall.Statement.{statement}
 use Rattle.boore_atkinson.proofs.rock.fall.Tie as tie
-use Rattle.boore_atkinson.proofs.rock.fall.Reads as reads
-use Rattle.boore_atkinson.proofs.rock.fall.Lts as lts
-use Rattle.boore_atkinson.proofs.rock.spread.Reads as spread-reads
-use Rattle.outward.proofs.multiple.Reads as multiple-reads
-use Rattle.outward.proofs.sum.Reads as sum-reads
 
--- src/rock.rt:57:34
 spread-requires : tie.Need-spread-requires
 spread-requires c κs = search needs
 
--- src/rock.rt:57:9
 multiple-requires : tie.Need-multiple-requires
-multiple-requires c κs = ?
+multiple-requires c κs = multiple-takes _ (c .before .pre .3 .ln) (omega (arith, c .spread .ensures .1))
 
--- src/rock.rt:58:39
 cast-multiple : tie.Need-cast-multiple
 cast-multiple c = search needs
 
--- src/rock.rt:58:33
 mul-multiple : tie.Need-mul-multiple
 mul-multiple c = search needs
 
--- src/rock.rt:58:9
 multiple-requires-2 : tie.Need-multiple-requires-2
-multiple-requires-2 c κs = ?
+multiple-requires-2 c κs =
+    let p = c .before .before .before .pre in multiple-takes _ (p .3 .km) (omega (arith, p .0 .c3))
 
--- src/rock.rt:59:5
 sum-requires : tie.Need-sum-requires
-sum-requires c κs = ?
+sum-requires c κs =
+    let p = c .before .before .before .before .pre in
+    rw (c .before .before .multiple .ensures, c .multiple2 .ensures, c .before .before .before .spread .ensures .0)
+    (sum-takes (near-sized (p .0) (p .2) (p .3)) (far-sized (p .0) (p .2) (p .3)) (omega arith))
 
--- src/rock.rt:53:1
 returns : tie.Need-returns
-returns c = ?
+returns c =
+    let a = c .before .before .before .before .before .args in
+    let p = c .before .before .before .before .before .pre in
+    let e = fall-is (a .r) (a .m) (a .s) (c .before .before .before .before .spread .ensures .0) (c .before .before .before .multiple .ensures) (c .before .multiple2 .ensures) (c .sum .ensures) in
+    (e, rw e (fall-sized (p .0) (p .2) (p .3)))
 
 pub fall-spec : {M : Type 1} → statement M
 fall-spec =

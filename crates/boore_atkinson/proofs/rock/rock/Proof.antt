@@ -1,42 +1,37 @@
+-- `rock::rock` meets its contract.
 use borrow.Author.Needs.{needs}
+use Rattle.boore_atkinson.proofs.RockSizes.{magnitude-bounds, rock-sized}
+use Rattle.boore_atkinson.proofs.Sums.{rock-is}
 use Rattle.boore_atkinson.proofs.rock.rock.Statement.{statement}
 use Rattle.boore_atkinson.proofs.rock.rock.Tie as tie
-use Rattle.boore_atkinson.proofs.rock.rock.Reads as reads
-use Rattle.boore_atkinson.proofs.rock.rock.Lts as lts
-use Rattle.boore_atkinson.proofs.rock.fall.Reads as fall-reads
-use Rattle.boore_atkinson.proofs.rock.magnitude_term.Reads as magnitude-term-reads
 
--- src/rock.rt:113:9
 fall-requires : tie.Need-fall-requires
 fall-requires c κs = search needs
 
--- src/rock.rt:114:9
 magnitude-term-requires : tie.Need-magnitude-term-requires
-magnitude-term-requires c κs = ?
+magnitude-term-requires c κs = let p = c .before .pre in (p .1, magnitude-bounds (p .1) (p .3))
 
--- src/rock.rt:115:32
 cast-up : tie.Need-cast-up
 cast-up c = search needs
 
--- src/rock.rt:115:23
 mul-up : tie.Need-mul-up
 mul-up c = search needs
 
--- src/rock.rt:115:14
 add-up : tie.Need-add-up
 add-up c = search needs
 
--- src/rock.rt:119:18
 add-t9 : tie.Need-add-t9
 add-t9 c = search needs
 
--- src/rock.rt:120:19
 add-t10 : tie.Need-add-t10
 add-t10 c = search needs
 
--- src/rock.rt:109:1
 returns : tie.Need-returns
-returns c = ?
+returns c =
+    let a = c .before .before .before .before .before .before .before .before .args in
+    let p = c .before .before .before .before .before .before .before .before .pre in
+    let e = rock-is (a .r) (a .q) (a .m) (a .s) (a .mechanism) (c .before .before .before .before .before .before .before .fall .ensures .0) (c .before .before .before .before .before .before .magnitude-term .ensures .0) in
+    (e, rw e (rock-sized (a .mechanism) (p .0) (p .1) (p .3) (p .4)))
 
 pub rock-spec : {M : Type 1} → statement M
 rock-spec =

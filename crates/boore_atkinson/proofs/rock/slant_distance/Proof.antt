@@ -1,49 +1,56 @@
+-- `rock::slant_distance` meets its contract.
+use native.Mathlib.Omega.{arith}
+use Rattle.logarithm.proofs.Laws.{rootOf-small}
+use Rattle.boore_atkinson.proofs.RockSizes.{squares, slant-domain, slant-sized}
+use Rattle.boore_atkinson.proofs.Sums.{slant-is}
 use Rattle.boore_atkinson.proofs.rock.slant_distance.Statement.{statement}
 use Rattle.boore_atkinson.proofs.rock.slant_distance.Tie as tie
-use Rattle.boore_atkinson.proofs.rock.slant_distance.Reads as reads
-use Rattle.boore_atkinson.proofs.rock.slant_distance.Lts as lts
-use Rattle.logarithm.proofs.ln.Reads as ln-reads
-use Rattle.logarithm.proofs.root.Reads as root-reads
 
--- src/rock.rt:32:13
 mul-x : tie.Need-mul-x
-mul-x c = ?
+mul-x c = record { fits = omega (arith, squares (c .pre .0) (c .pre .1) (c .pre .2) .distance) }
 
--- src/rock.rt:32:57
 mul-x-2 : tie.Need-mul-x-2
-mul-x-2 c = ?
+mul-x-2 c = record { fits = omega (arith, squares (c .pre .0) (c .pre .1) (c .pre .2) .depth) }
 
--- src/rock.rt:32:13
 add-x : tie.Need-add-x
-add-x c = ?
+add-x c =
+    let s = squares (c .pre .0) (c .pre .1) (c .pre .2) in record { fits = omega (arith, s .distance, s .depth) }
 
--- src/rock.rt:33:9
 root-requires : tie.Need-root-requires
-root-requires c κs = ?
+root-requires c κs = slant-domain (squares (c .pre .0) (c .pre .1) (c .pre .2)) .small
 
--- src/rock.rt:35:13
 ln-requires : tie.Need-ln-requires
-ln-requires c κs = ?
+ln-requires c κs = slant-domain (squares (c .before .pre .0) (c .before .pre .1) (c .before .pre .2))
 
--- src/rock.rt:37:18
 mul-t5 : tie.Need-mul-t5
-mul-t5 c = ?
+mul-t5 c =
+    let s = squares (c .before .before .pre .0) (c .before .before .pre .1) (c .before .before .pre .2) in
+    let k = rootOf-small (slant-domain s .small) in
+    record { fits = omega (arith, c .before .root .ensures, k) }
 
--- src/rock.rt:38:20
 add-t8 : tie.Need-add-t8
-add-t8 c = ?
+add-t8 c =
+    let s = squares (c .before .before .pre .0) (c .before .before .pre .1) (c .before .before .pre .2) in
+    let k = rootOf-small (slant-domain s .small) in
+    record { fits = omega (arith, c .before .root .ensures, k) }
 
--- src/rock.rt:38:19
 mul-t9 : tie.Need-mul-t9
-mul-t9 c = ?
+mul-t9 c =
+    let s = squares (c .before .before .pre .0) (c .before .before .pre .1) (c .before .before .pre .2) in
+    let k = rootOf-small (slant-domain s .small) in
+    record { fits = omega (arith, c .before .root .ensures, k) }
 
--- src/rock.rt:38:19
 add-t11 : tie.Need-add-t11
-add-t11 c = ?
+add-t11 c =
+    let s = squares (c .before .before .pre .0) (c .before .before .pre .1) (c .before .before .pre .2) in
+    let k = rootOf-small (slant-domain s .small) in
+    record { fits = omega (arith, c .before .root .ensures, k) }
 
--- src/rock.rt:28:1
 returns : tie.Need-returns
-returns c = ?
+returns c =
+    let a = c .before .before .args in
+    let e = slant-is (a .projection-distance) (a .h) (c .before .root .ensures) (c .ln .ensures) in
+    (e, rw e (slant-sized (squares (c .before .before .pre .0) (c .before .before .pre .1) (c .before .before .pre .2))))
 
 pub slant-distance-spec : {M : Type 1} → statement M
 slant-distance-spec =

@@ -1,39 +1,49 @@
+-- `site::curve` meets its contract.
+use native.Mathlib.Omega.{arith}
 use borrow.Author.Needs.{needs}
+use Rattle.boore_atkinson.specs.Constants.{lnA1, lnA2}
+use Rattle.boore_atkinson.specs.Evaluation.{exactly, zOf, cubicOf, straightOf, branchOf, curveOf}
+use Rattle.boore_atkinson.proofs.SiteSizes.{curve-sized}
+use Rattle.boore_atkinson.proofs.Sums.{branch-from-is, branch-below-is, branch-both-is}
 use Rattle.boore_atkinson.proofs.site.curve.Statement.{statement}
 use Rattle.boore_atkinson.proofs.site.curve.Tie as tie
-use Rattle.boore_atkinson.proofs.site.curve.Reads as reads
-use Rattle.boore_atkinson.proofs.site.curve.Lts as lts
-use Rattle.boore_atkinson.proofs.site.exact.Reads as exact-reads
-use Rattle.boore_atkinson.proofs.site.upper.Reads as upper-reads
-use Rattle.outward.proofs.span.Reads as span-reads
 
--- src/site.rt:147:9
 exact-requires : tie.Need-exact-requires
 exact-requires c κs = search needs
 
--- src/site.rt:147:9
 returns : tie.Need-returns
-returns c = ?
+unfolding curveOf
+returns c =
+    let a = c .before .before .before .args in
+    let rest = branchOf (a .b) lnA2 (cubicOf (zOf (a .b))) (straightOf (a .b)) in
+    let e = branch-from-is (a .b) lnA1 (exactly 0) rest (omega arith) (c .before .if1 .taken) (c .exact .ensures) in
+    (e, rw e (curve-sized (c .before .before .before .pre)))
 
--- src/site.rt:149:9
 upper-requires : tie.Need-upper-requires
 upper-requires c κs = search needs
 
--- src/site.rt:151:9
 returns-2 : tie.Need-returns-2
-returns-2 c = ?
+unfolding curveOf
+returns-2 c =
+    let a = c .before .before .before .before .before .args in
+    let u = c .before .before .upper in
+    (branch-below-is (a .b) lnA1 (exactly 0) _ (c .if2 .taken) (u .ensures .0), u .ensures .1)
 
--- src/site.rt:153:10
 exact-requires-2 : tie.Need-exact-requires-2
 exact-requires-2 c κs = search needs
 
--- src/site.rt:153:5
 span-requires : tie.Need-span-requires
 span-requires c κs = search needs
 
--- src/site.rt:142:1
 returns-3 : tie.Need-returns-3
-returns-3 c = ?
+unfolding curveOf
+returns-3 c =
+    let a = c .before .before .before .before .before .before .before .args in
+    let rest = branchOf (a .b) lnA2 (cubicOf (zOf (a .b))) (straightOf (a .b)) in
+    let e =
+    branch-both-is (a .b) lnA1 (exactly 0) rest (c .before .before .if2 .left) (omega (arith, c .before .before .before .before .before .if1 .left)) (c .before .exact2 .ensures) (c .before .before .before .before .upper .ensures .0)
+    (c .span .ensures) in
+    (e, rw e (curve-sized (c .before .before .before .before .before .before .before .pre)))
 
 pub curve-spec : {M : Type 1} → statement M
 curve-spec =

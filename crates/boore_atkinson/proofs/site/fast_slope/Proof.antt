@@ -1,35 +1,37 @@
+-- `site::fast_slope` meets its contract.
+use native.Mathlib.Omega.{arith}
 use borrow.Author.Needs.{needs}
+use Rattle.outward.proofs.Laws.{multiple-takes, product-takes}
+use Rattle.boore_atkinson.proofs.SiteSizes.{over-fast-sized, fast-ln, fast-ratio, fast-sized}
+use Rattle.boore_atkinson.proofs.Sums.{fast-is}
 use Rattle.boore_atkinson.proofs.site.fast_slope.Statement.{statement}
 use Rattle.boore_atkinson.proofs.site.fast_slope.Tie as tie
-use Rattle.boore_atkinson.proofs.site.fast_slope.Reads as reads
-use Rattle.boore_atkinson.proofs.site.fast_slope.Lts as lts
-use Rattle.logarithm.proofs.ln.Reads as ln-reads
-use Rattle.outward.proofs.multiple.Reads as multiple-reads
-use Rattle.outward.proofs.product.Reads as product-reads
 
--- src/site.rt:81:25
 ln-requires : tie.Need-ln-requires
 ln-requires c κs = search needs
 
--- src/site.rt:81:9
 product-requires : tie.Need-product-requires
-product-requires c κs = ?
+product-requires c κs =
+    let p = c .before .pre in
+    rw (c .ln .ensures) (product-takes (fast-ln (p .0) (omega arith) (p .1) (p .2)) over-fast-sized (omega arith))
 
--- src/site.rt:82:24
 cast-multiple : tie.Need-cast-multiple
 cast-multiple c = search needs
 
--- src/site.rt:82:14
 mul-multiple : tie.Need-mul-multiple
 mul-multiple c = search needs
 
--- src/site.rt:82:5
 multiple-requires : tie.Need-multiple-requires
-multiple-requires c κs = ?
+multiple-requires c κs =
+    let p = c .before .before .before .pre in
+    rw (c .before .product .ensures, c .before .before .ln .ensures) (multiple-takes _ (fast-ratio (p .0) (omega arith) (p .1) (p .2)) (omega (arith, p .0 .b2)))
 
--- src/site.rt:77:1
 returns : tie.Need-returns
-returns c = ?
+returns c =
+    let a = c .before .before .before .before .args in
+    let p = c .before .before .before .before .pre in
+    let e = fast-is (a .s) (a .v) (c .before .before .before .ln .ensures) (c .before .before .product .ensures) (c .multiple .ensures) in
+    (e, rw e (fast-sized (p .0) (omega arith) (p .1) (p .2)))
 
 pub fast-slope-spec : {M : Type 1} → statement M
 fast-slope-spec =

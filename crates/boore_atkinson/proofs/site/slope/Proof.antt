@@ -1,51 +1,55 @@
+-- `site::slope` meets its contract.
 use borrow.Author.Needs.{needs}
+use Rattle.boore_atkinson.proofs.SiteSizes.{slope-sized}
+use Rattle.boore_atkinson.proofs.Sums.{slope-up-to-180, slope-up-to-300, slope-below-760, slope-from-760}
 use Rattle.boore_atkinson.proofs.site.slope.Statement.{statement}
 use Rattle.boore_atkinson.proofs.site.slope.Tie as tie
-use Rattle.boore_atkinson.proofs.site.slope.Reads as reads
-use Rattle.boore_atkinson.proofs.site.slope.Lts as lts
-use Rattle.boore_atkinson.proofs.site.exact.Reads as exact-reads
-use Rattle.boore_atkinson.proofs.site.fast_slope.Reads as fast-slope-reads
-use Rattle.boore_atkinson.proofs.site.slow_slope.Reads as slow-slope-reads
 
--- src/site.rt:91:34
 cast-exact : tie.Need-cast-exact
 cast-exact c = search needs
 
--- src/site.rt:91:22
 mul-exact : tie.Need-mul-exact
 mul-exact c = search needs
 
--- src/site.rt:91:9
 exact-requires : tie.Need-exact-requires
 exact-requires c κs = search needs
 
--- src/site.rt:91:9
 returns : tie.Need-returns
-returns c = ?
+returns c =
+    let a = c .before .before .before .args in
+    let p = c .before .before .before .pre in
+    let e = slope-up-to-180 (a .s) (a .v) (c .before .before .if1 .taken) (c .exact .ensures) in
+    (e, rw e (slope-sized (p .0) (p .1)))
 
--- src/site.rt:94:9
 slow-slope-requires : tie.Need-slow-slope-requires
 slow-slope-requires c κs = search needs
 
--- src/site.rt:94:9
 returns-2 : tie.Need-returns-2
-returns-2 c = ?
+returns-2 c =
+    let a = c .before .before .before .args in
+    let p = c .before .before .before .pre in
+    let e = slope-up-to-300 (a .s) (a .v) (c .before .before .if1 .left) (c .before .if2 .taken) (c .slow-slope .ensures .0) in
+    (e, rw e (slope-sized (p .0) (p .1)))
 
--- src/site.rt:97:9
 fast-slope-requires : tie.Need-fast-slope-requires
 fast-slope-requires c κs = search needs
 
--- src/site.rt:97:9
 returns-3 : tie.Need-returns-3
-returns-3 c = ?
+returns-3 c =
+    let a = c .before .before .before .before .args in
+    let p = c .before .before .before .before .pre in
+    let e = slope-below-760 (a .s) (a .v) (c .before .before .before .if1 .left) (c .before .before .if2 .left) (c .before .if3 .taken) (c .fast-slope .ensures .0) in
+    (e, rw e (slope-sized (p .0) (p .1)))
 
--- src/site.rt:99:5
 exact-requires-2 : tie.Need-exact-requires-2
 exact-requires-2 c κs = search needs
 
--- src/site.rt:86:1
 returns-4 : tie.Need-returns-4
-returns-4 c = ?
+returns-4 c =
+    let a = c .before .before .before .before .args in
+    let p = c .before .before .before .before .pre in
+    let e = slope-from-760 (a .s) (a .v) (c .before .before .before .if1 .left) (c .before .before .if2 .left) (c .before .if3 .left) (c .exact2 .ensures) in
+    (e, rw e (slope-sized (p .0) (p .1)))
 
 pub slope-spec : {M : Type 1} → statement M
 slope-spec =

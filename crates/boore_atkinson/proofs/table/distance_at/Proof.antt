@@ -1,20 +1,25 @@
+-- `table::distance_at` meets its contract.
 use borrow.Author.Needs.{needs}
+use lib.ListN.{List·getD-map}
+use Rattle.signed.proofs.Whole.{up, down}
+use Rattle.boore_atkinson.specs.Tables.{table6, rowAt}
+use Rattle.boore_atkinson.specs.Rows.{distanceParts}
+use Rattle.boore_atkinson.proofs.Rows.{distance-limits}
 use Rattle.boore_atkinson.proofs.table.distance_at.Statement.{statement}
 use Rattle.boore_atkinson.proofs.table.distance_at.Tie as tie
-use Rattle.boore_atkinson.proofs.table.distance_at.Reads as reads
-use Rattle.boore_atkinson.proofs.table.distance_at.Lts as lts
 
--- src/table.rt:156:5
 mul-result : tie.Need-mul-result
 mul-result c = search needs
 
--- src/table.rt:156:5
 array-copy-out-result : tie.Need-array-copy-out-result
 array-copy-out-result c = search needs
 
--- src/table.rt:152:1
 returns : tie.Need-returns
-returns c = ?
+unfolding up down rowAt
+returns c =
+    let k = c .before .args .k in
+    let same = List·getD-map distanceParts table6 k _ in
+    (same, rw same (distance-limits k (c .before .pre) .sizes))
 
 pub distance-at-spec : {M : Type 1} → statement M
 distance-at-spec = tie.close (tie.spec mul-result array-copy-out-result returns)

@@ -1,11 +1,15 @@
+-- `table::pga_distance` meets its contract.
+use mathlib.Core.Path.{refl}
+use native.Mathlib.Omega.{arith}
+use Rattle.signed.proofs.Whole.{up, down}
+use Rattle.boore_atkinson.specs.Tables.{rowAt}
+use Rattle.boore_atkinson.proofs.Rows.{distance-limits}
 use Rattle.boore_atkinson.proofs.table.pga_distance.Statement.{statement}
 use Rattle.boore_atkinson.proofs.table.pga_distance.Tie as tie
-use Rattle.boore_atkinson.proofs.table.pga_distance.Reads as reads
-use Rattle.boore_atkinson.proofs.table.pga_distance.Lts as lts
 
--- src/table.rt:133:1
 returns : tie.Need-returns
-returns c = ?
+unfolding up down rowAt
+returns c = (refl, distance-limits 0 (omega arith) .sizes)
 
 pub pga-distance-spec : {M : Type 1} → statement M
 pga-distance-spec = tie.close (tie.spec returns)

@@ -1,11 +1,15 @@
+-- `table::pga_magnitude` meets its contract.
+use mathlib.Core.Path.{refl}
+use native.Mathlib.Omega.{arith}
+use Rattle.signed.proofs.Whole.{up, down}
+use Rattle.boore_atkinson.specs.Tables.{rowAt}
+use Rattle.boore_atkinson.proofs.Rows.{magnitude-limits}
 use Rattle.boore_atkinson.proofs.table.pga_magnitude.Statement.{statement}
 use Rattle.boore_atkinson.proofs.table.pga_magnitude.Tie as tie
-use Rattle.boore_atkinson.proofs.table.pga_magnitude.Reads as reads
-use Rattle.boore_atkinson.proofs.table.pga_magnitude.Lts as lts
 
--- src/table.rt:139:1
 returns : tie.Need-returns
-returns c = ?
+unfolding up down rowAt
+returns c = (refl, magnitude-limits 0 (omega arith) .sizes)
 
 pub pga-magnitude-spec : {M : Type 1} → statement M
 pga-magnitude-spec = tie.close (tie.spec returns)

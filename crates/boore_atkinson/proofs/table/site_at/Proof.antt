@@ -1,20 +1,25 @@
+-- `table::site_at` meets its contract.
 use borrow.Author.Needs.{needs}
+use lib.ListN.{List·getD-map}
+use Rattle.signed.proofs.Whole.{up, down}
+use Rattle.boore_atkinson.specs.Tables.{table3, rowAt}
+use Rattle.boore_atkinson.specs.Rows.{siteParts}
+use Rattle.boore_atkinson.proofs.Rows.{site-limits}
 use Rattle.boore_atkinson.proofs.table.site_at.Statement.{statement}
 use Rattle.boore_atkinson.proofs.table.site_at.Tie as tie
-use Rattle.boore_atkinson.proofs.table.site_at.Reads as reads
-use Rattle.boore_atkinson.proofs.table.site_at.Lts as lts
 
--- src/table.rt:149:5
 mul-result : tie.Need-mul-result
 mul-result c = search needs
 
--- src/table.rt:149:5
 array-copy-out-result : tie.Need-array-copy-out-result
 array-copy-out-result c = search needs
 
--- src/table.rt:145:1
 returns : tie.Need-returns
-returns c = ?
+unfolding up down rowAt
+returns c =
+    let k = c .before .args .k in
+    let same = List·getD-map siteParts table3 k _ in
+    (same, rw same (site-limits k (c .before .pre) .sizes))
 
 pub site-at-spec : {M : Type 1} → statement M
 site-at-spec = tie.close (tie.spec mul-result array-copy-out-result returns)

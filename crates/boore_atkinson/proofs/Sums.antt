@@ -1,0 +1,139 @@
+-- What the code puts together is what the evaluation has.
+use mathlib.Core.Path.{_≡_, refl}
+use mathlib.Core.Bool.{cond}
+use Prim.Native.Nat.{ℕ, _+_, _*_, _-_, _/_, _≤_, _<_, min, max}
+use native.Mathlib.Omega.{arith}
+use borrow.Author.Tests.{le-leb, lt-leb, lt-ltb, le-ltb}
+use lib.Dec.{eqb}
+use Rattle.signed.specs.Evaluation.{betweenOf}
+use Rattle.logarithm.specs.declared.Ends.{Ends}
+use Rattle.logarithm.specs.Evaluation.{lnOf, rootOf}
+use Rattle.outward.specs.Evaluation.{multipleOf, productOf, sumOf, spanOf}
+use Rattle.boore_atkinson.specs.declared.Motion.{Motion}
+use Rattle.boore_atkinson.specs.declared.rock.Slant.{Slant}
+use Rattle.boore_atkinson.specs.declared.rock.Exact.{Exact}
+use Rattle.boore_atkinson.specs.declared.table.SiteRow.{SiteRow}
+use Rattle.boore_atkinson.specs.declared.table.DistanceRow.{DistanceRow}
+use Rattle.boore_atkinson.specs.declared.table.MagnitudeRow.{MagnitudeRow}
+use Rattle.boore_atkinson.specs.declared.table.TotalRow.{TotalRow}
+use Rattle.boore_atkinson.specs.Tables.{Total, Row, pga}
+use Rattle.boore_atkinson.specs.Rock.{X}
+use Rattle.boore_atkinson.specs.Rows.{siteParts, distanceParts, magnitudeParts, totalParts}
+use Rattle.boore_atkinson.specs.Constants.{lnLow, lnA1, lnA2, overSlow, overFast, cOver, dOver}
+use Rattle.boore_atkinson.specs.Evaluation.{exactly, kmOf, slantOf, spreadOf, fallOf, levelOf, magnitudeOf, rockOf, belowOf, linearOf, slowSlopeOf, fastSlopeOf, slopeOf, zOf, cubicOf, straightOf, branchOf, curveOf, nonlinearOf, endsOf, plusOf, medianOf, sigmaOf}
+
+pub slant-is : (d h : ℕ) {k : ℕ} {e : Ends} → k ≡ rootOf (X d h) → e ≡ lnOf (X d h) 10_000 →
+    record { ln = e; km = record { low = k * 78_125 / 1_024; high = (k + 1) * 78_125 / 1_024 + 1 } } ≡ slantOf d h
+unfolding slantOf kmOf
+slant-is d h root ln = rw (root, ln) refl
+
+pub fall-is : (r : DistanceRow) (m : ℕ) (s : Slant) {n : ℕ} {a b f : Ends} → n ≡ spreadOf r m → a ≡ multipleOf n (s .ln) →
+    b ≡ multipleOf (200 * r .3) (s .km) → f ≡ sumOf a b → f ≡ fallOf r m s
+unfolding fallOf
+fall-is r m s n a b f = rw (f, a, b, n) refl
+
+module _ (r : MagnitudeRow) (m mechanism : ℕ) {e : Exact} (level : e ≡ levelOf r mechanism) where
+  -- up to the hinge magnitude, and above it
+  pub under-is : m ≤ r .11 →
+      record { gain = e .gain; loss = e .loss + 100 * (r .8 * (r .11 - m)) + r .9 * ((r .11 - m) * (r .11 - m)) } ≡ magnitudeOf r m mechanism
+  unfolding magnitudeOf
+  under-is h = rw (le-leb m (r .11) h, level) refl
+
+  pub over-is : r .11 < m → record { gain = e .gain + 100 * (r .10 * (m - r .11)); loss = e .loss } ≡ magnitudeOf r m mechanism
+  unfolding magnitudeOf
+  over-is h = rw (lt-leb m (r .11) h, level) refl
+
+pub rock-is : (r : DistanceRow) (q : MagnitudeRow) (m : ℕ) (s : Slant) (mechanism : ℕ) {f : Ends} {g : Exact} →
+    f ≡ fallOf r m s → g ≡ magnitudeOf q m mechanism →
+    record { up = exactly (g .gain + 10_000 * r .3); down = record { low = g .loss + f .low; high = g .loss + f .high } } ≡ rockOf r q m s mechanism
+unfolding rockOf
+rock-is r q m s mechanism f g = rw (f, g) refl
+
+pub below-is : (m d mechanism : ℕ) {r : DistanceRow} {q : MagnitudeRow} {s : Slant} {a : Motion} →
+    r ≡ distanceParts (pga .distance) → q ≡ magnitudeParts (pga .magnitude) → s ≡ slantOf d (r .4) → a ≡ rockOf r q m s mechanism →
+    record { low = a .down .low - a .up .low; high = a .down .high - a .up .low } ≡ belowOf m d mechanism
+unfolding belowOf
+below-is m d mechanism r q s a = rw (a, s, r, q) refl
+
+-- ---- the site term
+
+module _ (s : SiteRow) (v : ℕ) {e n : Ends} (none : n ≡ exactly 0) where
+  pub linear-slow : v < 7_600 → e ≡ multipleOf (20_000 * s .0) (lnOf 7_600 v) → record { up = e; down = n } ≡ linearOf s v
+  unfolding linearOf
+  linear-slow h term = rw (lt-ltb v 7_600 h, term, none) refl
+
+  pub linear-fast : 7_600 ≤ v → e ≡ multipleOf (20_000 * s .0) (lnOf v 7_600) → record { up = n; down = e } ≡ linearOf s v
+  unfolding linearOf
+  linear-fast h term = rw (le-ltb v 7_600 h, term, none) refl
+
+pub slow-is : (s : SiteRow) (v : ℕ) {l ratio term b2 n : Ends} → l ≡ lnOf 3_000 v → ratio ≡ productOf l overSlow →
+    term ≡ multipleOf (20_000 * (s .1 - 10 * s .2)) ratio → b2 ≡ exactly (10_000_000 * s .2) → n ≡ sumOf term b2 → n ≡ slowSlopeOf s v
+unfolding slowSlopeOf
+slow-is s v l ratio term b2 n = rw (n, term, b2, ratio, l) refl
+
+pub fast-is : (s : SiteRow) (v : ℕ) {l ratio n : Ends} → l ≡ lnOf 7_600 v → ratio ≡ productOf l overFast →
+    n ≡ multipleOf (200_000 * s .2) ratio → n ≡ fastSlopeOf s v
+unfolding fastSlopeOf
+fast-is s v l ratio n = rw (n, ratio, l) refl
+
+module _ (s : SiteRow) (v : ℕ) {n : Ends} where
+  pub slope-up-to-180 : v ≤ 1_800 → n ≡ exactly (1_000_000 * s .1) → n ≡ slopeOf s v
+  unfolding slopeOf
+  slope-up-to-180 h e = rw (le-leb v 1_800 h) e
+
+  pub slope-up-to-300 : 1_800 < v → v ≤ 3_000 → n ≡ slowSlopeOf s v → n ≡ slopeOf s v
+  unfolding slopeOf
+  slope-up-to-300 g h e = rw (lt-leb v 1_800 g, le-leb v 3_000 h) e
+
+  pub slope-below-760 : 1_800 < v → 3_000 < v → v < 7_600 → n ≡ fastSlopeOf s v → n ≡ slopeOf s v
+  unfolding slopeOf
+  slope-below-760 f g h e = rw (lt-leb v 1_800 f, lt-leb v 3_000 g, lt-ltb v 7_600 h) e
+
+  pub slope-from-760 : 1_800 < v → 3_000 < v → 7_600 ≤ v → n ≡ exactly 0 → n ≡ slopeOf s v
+  unfolding slopeOf
+  slope-from-760 f g h e = rw (lt-leb v 1_800 f, lt-leb v 3_000 g, le-ltb v 7_600 h) e
+
+pub height-is : (b : Ends) {low high : ℕ} → low ≡ min (b .high) (lnA1 .low) → high ≡ max (b .low) (lnA2 .low) →
+    record { low = lnA1 .low - low; high = lnA1 .high - high } ≡ zOf b
+unfolding zOf
+height-is b {low} el eh =
+    let same : lnA1 .low - low ≡ lnA1 .low - b .high = omega (arith, el) in
+    rw (same, eh) refl
+
+pub cubic-is : (z : Ends) {square a cube b q : Ends} → square ≡ productOf z z → a ≡ productOf cOver square → cube ≡ productOf square z →
+    b ≡ productOf dOver cube → q ≡ sumOf a b → q ≡ cubicOf z
+unfolding cubicOf
+cubic-is z square a cube b q = rw (q, a, b, cube, square) refl
+
+module _ (b t A B : Ends) {r : Ends} where
+  pub branch-from-is : t .low ≤ b .high → t .high ≤ b .low → r ≡ A → r ≡ branchOf b t A B
+  unfolding branchOf
+  branch-from-is h k e = rw (le-leb (t .low) (b .high) h, le-ltb (b .low) (t .high) k) e
+
+  pub branch-below-is : b .high < t .low → r ≡ B → r ≡ branchOf b t A B
+  unfolding branchOf
+  branch-below-is h e = rw (lt-leb (t .low) (b .high) h) e
+
+  pub branch-both-is : {x y : Ends} → t .low ≤ b .high → b .low < t .high → x ≡ A → y ≡ B → r ≡ spanOf x y → r ≡ branchOf b t A B
+  unfolding branchOf
+  branch-both-is h k ex ey e = rw (le-leb (t .low) (b .high) h, lt-ltb (b .low) (t .high) k, ← ex, ← ey) e
+
+pub nonlinear-is : (s : SiteRow) (v : ℕ) (b : Ends) {n q up down : Ends} → n ≡ slopeOf s v → q ≡ curveOf b → up ≡ productOf n lnLow →
+    down ≡ productOf n q → record { up = up; down = down } ≡ nonlinearOf s v b
+unfolding nonlinearOf
+nonlinear-is s v b n q up down = rw (up, down, n, q) refl
+
+-- ---- the sum
+
+pub median-is : (r : Row) (m d v mechanism : ℕ) {c : DistanceRow} {q : MagnitudeRow} {s : SiteRow} {slant : Slant} {b : Ends}
+    {rock linear nonlinear : Motion} → c ≡ distanceParts (r .distance) → q ≡ magnitudeParts (r .magnitude) →
+    s ≡ siteParts (r .site) → slant ≡ slantOf d (c .4) → rock ≡ rockOf c q m slant mechanism → linear ≡ linearOf s v →
+    b ≡ belowOf m d mechanism → nonlinear ≡ nonlinearOf s v b →
+    endsOf (plusOf (plusOf rock linear) nonlinear) ≡ medianOf r m d v mechanism
+unfolding medianOf
+median-is r m d v mechanism c q s slant rock linear b nonlinear = rw (rock, linear, nonlinear, slant, b, c, q, s) refl
+
+pub sigma-is : (t : Total) (mechanism : ℕ) {r : TotalRow} {z : ℕ} → r ≡ totalParts t → z ≡ cond (eqb mechanism 9) (r .0) (r .1) →
+    betweenOf (1_000_000 * z) 0 (1_000_000 * z) 0 ≡ sigmaOf t mechanism
+unfolding sigmaOf
+sigma-is t mechanism row z = rw (z, row) refl

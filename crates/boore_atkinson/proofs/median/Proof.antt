@@ -1,0 +1,77 @@
+-- `median` meets its contract.
+use mathlib.Core.Path.{_∙_, ap}
+use native.Mathlib.Omega.{arith}
+use borrow.Author.Needs.{needs}
+use Rattle.boore_atkinson.specs.Tables.{rowAt}
+use Rattle.boore_atkinson.specs.Evaluation.{endsOf, plusOf}
+use Rattle.boore_atkinson.proofs.Laws.{motion-wider, plus-sized}
+use Rattle.boore_atkinson.proofs.Sums.{median-is}
+use Rattle.boore_atkinson.proofs.median.Statement.{statement}
+use Rattle.boore_atkinson.proofs.median.Tie as tie
+
+distance-at-requires : tie.Need-distance-at-requires
+distance-at-requires c κs = search needs
+
+cast-slant-distance : tie.Need-cast-slant-distance
+cast-slant-distance c = search needs
+
+slant-distance-requires : tie.Need-slant-distance-requires
+slant-distance-requires c κs = search needs
+
+magnitude-at-requires : tie.Need-magnitude-at-requires
+magnitude-at-requires c κs = search needs
+
+rock-requires : tie.Need-rock-requires
+rock-requires c κs = search needs
+
+site-at-requires : tie.Need-site-at-requires
+site-at-requires c κs = search needs
+
+linear-requires : tie.Need-linear-requires
+linear-requires c κs = search needs
+
+below-requires : tie.Need-below-requires
+below-requires c κs = search needs
+
+nonlinear-part-requires : tie.Need-nonlinear-part-requires
+nonlinear-part-requires c κs = search needs
+
+plus-requires : tie.Need-plus-requires
+plus-requires c κs = search needs
+
+plus-requires-2 : tie.Need-plus-requires-2
+plus-requires-2 c κs =
+    let first = plus-sized (c .before .before .before .before .before .rock .ensures .1) (c .before .before .before .linear .ensures .1) in
+    (rw (c .plus .ensures) (motion-wider first (omega arith) (omega arith)), motion-wider (c .before .nonlinear-part .ensures .1) (omega arith) (omega arith))
+
+ends-requires : tie.Need-ends-requires
+ends-requires c κs =
+    let first = plus-sized (c .before .before .before .before .before .before .rock .ensures .1) (c .before .before .before .before .linear .ensures .1) in
+    rw (c .plus2 .ensures, c .before .plus .ensures) (motion-wider (plus-sized first (c .before .before .nonlinear-part .ensures .1)) (omega arith) (omega arith))
+
+returns : tie.Need-returns
+returns c =
+    let a = c .before .before .before .before .before .before .before .before .before .before .before .before .args in
+    let n = c .before .before .before .nonlinear-part in
+    let sum = c .before .plus2 .ensures ∙ ap (λ x. plusOf x (n .result)) (c .before .before .plus .ensures) in
+    c .ends .ensures ∙ ap endsOf sum ∙
+    median-is (rowAt (a .k)) (a .magnitude) (a .projection-distance) (a .velocity) (a .mechanism) (c .before .before .before .before .before .before .before .before .before .before .before .distance-at .ensures .0) (c .before .before .before .before .before .before .before .before .magnitude-at .ensures .0)
+    (c .before .before .before .before .before .before .site-at .ensures .0) (c .before .before .before .before .before .before .before .before .before .slant-distance .ensures .0) (c .before .before .before .before .before .before .before .rock .ensures .0) (c .before .before .before .before .before .linear .ensures .0) (c .before .before .before .before .below .ensures .0) (n .ensures .0)
+
+pub median-spec : {M : Type 1} → statement M
+median-spec =
+    tie.close
+    (tie.spec
+    distance-at-requires
+    cast-slant-distance
+    slant-distance-requires
+    magnitude-at-requires
+    rock-requires
+    site-at-requires
+    linear-requires
+    below-requires
+    nonlinear-part-requires
+    plus-requires
+    plus-requires-2
+    ends-requires
+    returns)
