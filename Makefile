@@ -23,15 +23,17 @@ outside: probe
 	python3 tests/test_values.py
 	python3 tests/test_logarithm.py $(PROBE)
 	python3 tests/test_records.py $(PROBE)
+	python3 tests/test_coefficients.py
+	python3 tests/test_models.py $(PROBE)
 
 # A program over the proved libraries, for the tests.
 probe: need
 	mkdir -p target/tests
-	for library in probe record_probe; do \
+	for library in probe record_probe model_probe; do \
 	    rt staticlib $$library > target/tests/$$library.log 2>&1 || { cat target/tests/$$library.log; exit 1; }; \
 	done
 	$(CC) -O2 -Wall -Wextra -Werror -std=c99 -o $(PROBE) tests/probe.c \
-	    target/staticlib/libprobe.a target/staticlib/librecord_probe.a
+	    target/staticlib/libprobe.a target/staticlib/librecord_probe.a target/staticlib/libmodel_probe.a
 
 need:
 	tools/need

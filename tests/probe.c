@@ -5,8 +5,14 @@
                           mechanism period
    row MODEL PERIOD       the row of the period in the model's tables
    read BYTES             E SCENARIO LENGTH REST, or R NUMBER REST
-   write SCENARIO BYTES   L LENGTH BYTES, or R NUMBER BYTES: what is lent, and as it is afterwards */
+   write SCENARIO BYTES   L LENGTH BYTES, or R NUMBER BYTES: what is lent, and as it is afterwards
+   table MAGNITUDE        2 or 3, the table of Idriss that the magnitude takes
+   idriss TABLE ROW MAGNITUDE DISTANCE VELOCITY MECHANISM, idriss_sigma PERIOD MAGNITUDE,
+   boore_atkinson ROW MAGNITUDE DISTANCE VELOCITY MECHANISM, boore_atkinson_sigma ROW MECHANISM,
+   nonlinear ROW VELOCITY LOW HIGH (the ends of p)
+                          LOW HIGH, or none where the arguments are not accepted */
 #include <inttypes.h>
+#include <stdbool.h>
 #include <stdio.h>
 #include <string.h>
 
@@ -33,12 +39,25 @@ typedef struct {
     size_t length;
 } ProbedWriting;
 
+typedef struct {
+    int64_t low, high;
+} ProbedEnds;
+
 extern Probed probe_ln(uint64_t a, uint64_t b);
 extern uint64_t probe_root(uint64_t x);
 extern uint8_t probe_refusal(Fields f);
 extern size_t probe_row(uint8_t model, uint16_t period);
 extern ProbedReading probe_read(const uint8_t *bytes, size_t count, size_t place);
 extern ProbedWriting probe_write(Fields f, uint8_t *bytes, size_t count);
+
+extern bool probe_takes_table_3(uint16_t magnitude);
+extern ProbedEnds probe_idriss(uint8_t table, size_t row, uint16_t magnitude, uint16_t distance, uint16_t velocity,
+                               uint8_t mechanism);
+extern ProbedEnds probe_idriss_sigma(uint16_t period, uint16_t magnitude);
+extern ProbedEnds probe_boore_atkinson(size_t row, uint16_t magnitude, uint16_t distance, uint16_t velocity,
+                                       uint8_t mechanism);
+extern ProbedEnds probe_boore_atkinson_sigma(size_t row, uint8_t mechanism);
+extern ProbedEnds probe_nonlinear(size_t row, uint16_t velocity, uint64_t low, uint64_t high);
 
 /* The most bytes of a question, and how many stand after lent bytes to see whether they are touched. */
 enum { LONGEST = 1024, GUARDS = 16, GUARD = 0x5a };
@@ -101,6 +120,47 @@ static void answer_write(Fields f, uint8_t *bytes, size_t n)
     print_bytes(bytes, n);
 }
 
+static void print_ends(ProbedEnds e)
+{
+    if (e.low <= e.high)
+        printf("%" PRId64 " %" PRId64 "\n", e.low, e.high);
+    else
+        puts("none");
+}
+
+/* The least p that the nonlinear part is asked for, in units; p is at most 0. */
+static const int64_t LEAST_P = -10000000000;
+
+/* Answers a question about the models; 0 where it is none. */
+static int answer_model(const char *line)
+{
+    uint8_t table, mechanism;
+    uint16_t magnitude, distance, velocity, period;
+    size_t row;
+    int64_t low, high;
+
+    if (sscanf(line, "table %" SCNu16, &magnitude) == 1)
+        puts(probe_takes_table_3(magnitude) ? "3" : "2");
+    else if (sscanf(line, "idriss %" SCNu8 " %zu %" SCNu16 " %" SCNu16 " %" SCNu16 " %" SCNu8, &table, &row,
+                    &magnitude, &distance, &velocity, &mechanism) == 6)
+        print_ends(probe_idriss(table, row, magnitude, distance, velocity, mechanism));
+    else if (sscanf(line, "idriss_sigma %" SCNu16 " %" SCNu16, &period, &magnitude) == 2)
+        print_ends(probe_idriss_sigma(period, magnitude));
+    else if (sscanf(line, "boore_atkinson %zu %" SCNu16 " %" SCNu16 " %" SCNu16 " %" SCNu8, &row, &magnitude,
+                    &distance, &velocity, &mechanism) == 5)
+        print_ends(probe_boore_atkinson(row, magnitude, distance, velocity, mechanism));
+    else if (sscanf(line, "boore_atkinson_sigma %zu %" SCNu8, &row, &mechanism) == 2)
+        print_ends(probe_boore_atkinson_sigma(row, mechanism));
+    else if (sscanf(line, "nonlinear %zu %" SCNu16 " %" SCNd64 " %" SCNd64, &row, &velocity, &low, &high) == 4) {
+        if (low < LEAST_P || high < low || 0 < high)
+            puts("none");
+        else
+            print_ends(probe_nonlinear(row, velocity, (uint64_t)-high, (uint64_t)-low));
+    } else
+        return 0;
+    return 1;
+}
+
 /* Answers one line; 0 where it is no question. */
 static int answer(const char *line)
 {
@@ -131,7 +191,7 @@ static int answer(const char *line)
     } else if (sscanf(line, "write " FIELDS " %2048s", INTO(f), text) == 7 && (n = bytes_of(text, bytes)) >= 0) {
         answer_write(f, bytes, (size_t)n);
     } else {
-        return 0;
+        return answer_model(line);
     }
     return 1;
 }

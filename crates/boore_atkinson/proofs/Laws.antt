@@ -1,14 +1,15 @@
 -- What `medianOf`, `nonlinearEndsOf` and `sigmaOf` promise (specs/Promise).
 use mathlib.Core.Path.{_≡_, refl}
 use mathlib.Core.Bool.{Bool, true, false, cond}
-use Prim.Native.Nat.{ℕ, _+_, _*_, _-_, _≤_, _<_}
+use Prim.Native.Nat.{ℕ, _+_, _*_, _-_, _^_, _≤_, _<_}
 use native.Mathlib.Omega.{arith}
 use lib.Dec.{leb, ltb, eqb}
 use lib.IntN.{pos, negℤ, _+ℤ_}
 use lib.Signed.{_≤ℤ_}
 use Rattle.signed.specs.declared.Ends as signed
-use Rattle.signed.specs.Evaluation.{betweenOf}
+use Rattle.signed.specs.Evaluation.{SmallerThan, betweenOf}
 use Rattle.signed.proofs.Whole.{up, down, zero-sub}
+use Rattle.signed.proofs.Laws.{between-small}
 use Rattle.exact.specs.Fraction.{Fraction, _over_, zeroQ, _-q_}
 use Rattle.exact.specs.Pair.{_∈_}
 use Rattle.exact.specs.Formula.{Formula, stated, ln, _⊕_, _⊗_, _⊘_, units, ends, Encloses}
@@ -24,15 +25,15 @@ use Rattle.boore_atkinson.specs.Tables.{Site, Distance, Magnitude, Total
 use Rattle.boore_atkinson.specs.Rock.{X, R, lnR, distanceTerm, onRock}
 use Rattle.boore_atkinson.specs.SiteTerm.{b1Of, b2Of, linearPart, bnl, x, y, c, d, lowPart, transition, highPart, nonlinearPart}
 use Rattle.boore_atkinson.specs.Median.{p, median, sigma}
-use Rattle.boore_atkinson.specs.Rows.{siteParts, distanceParts, magnitudeParts, SiteSigns, DistanceSigns, MagnitudeSigns}
+use Rattle.boore_atkinson.specs.Rows.{siteParts, distanceParts, magnitudeParts, SiteSigns, DistanceSigns, MagnitudeSigns, TotalLimits}
 use Rattle.boore_atkinson.specs.Promise.{MedianDomain, NonlinearDomain, medianWidth, MedianEnds, NonlinearEnds, SigmaEnds}
 use Rattle.boore_atkinson.specs.Evaluation.{slantOf, rockOf, belowOf, linearOf, nonlinearOf, endsOf, plusOf, medianOf, nonlinearEndsOf, sigmaOf}
 use Rattle.boore_atkinson.specs.Sizes.{MotionSized}
-use Rattle.boore_atkinson.proofs.Rows.{site-limits, distance-limits, magnitude-limits}
+use Rattle.boore_atkinson.proofs.Rows.{site-limits, distance-limits, magnitude-limits, total-limits}
 use Rattle.boore_atkinson.proofs.RockSizes.{Squares, squares, slant-domain, slant-sized, rock-sized, pga-order, below-sized}
 use Rattle.boore_atkinson.proofs.RockLaws.{Moves, plus-moves, rock-moves}
 use Rattle.boore_atkinson.proofs.SiteLaws.{linear-moves, slope-below}
-use Rattle.boore_atkinson.proofs.SiteSizes.{linear-sized, nonlinear-narrow}
+use Rattle.boore_atkinson.proofs.SiteSizes.{linear-sized, nonlinear-sized, nonlinear-narrow}
 use Rattle.boore_atkinson.proofs.CurveLaws.{nonlinear-moves}
 
 -- ---- motions and their ends
@@ -60,6 +61,12 @@ motion-narrow : (a : Motion) (w : ℕ) {v b : ℕ} → MotionSized a v b → v �
 unfolding endsOf
 motion-narrow a w s h =
     narrow-between (a .up .low) (a .down .high) (a .up .high) (a .down .low) w (omega (arith, s .together))
+
+motion-small : (a : Motion) {w b : ℕ} → MotionSized a w b → b < 2 ^ 53 → SmallerThan (2 ^ 53) (endsOf a)
+unfolding endsOf
+motion-small a s h =
+    between-small (2 ^ 53) (omega (arith, s .up .order, s .up .small)) (omega (arith, s .down .small)) (omega (arith, s .up .small))
+    (omega (arith, s .down .order, s .down .small))
 
 -- ---- logarithms are of numbers of at least 1, and divisors above zero
 
@@ -127,10 +134,11 @@ below-of b h = record { from = rw (zero-sub (b .high)) (h .from); to = rw (zero-
 
 pub nonlinear-promise : {k v : ℕ} {b : Ends} → NonlinearDomain k v b →
     NonlinearEnds (rowAt k .site) v b (nonlinearEndsOf (rowAt k .site) v b)
-unfolding Sound value
+unfolding Sound value nonlinearEndsOf
 nonlinear-promise {k} {v} {b} h = record {
   encloses = λ q inside.
       nonlinear-encloses (rowAt k .site) (site-limits k (h .row)) (h .slow) (h .fast) (stated q) b tt (λ σ known. below-of b inside);
+  small = motion-small _ (nonlinear-sized b (site-limits k (h .row) .sizes) (h .slow) (h .order)) (omega arith);
 }
 
 -- ---- p
@@ -186,6 +194,7 @@ module _ (r : Row) (s : SiteSigns (r .site)) (l : DistanceSigns (r .distance)) (
   median-ends = record {
     encloses = encloses median-sound (λ σ known. moves-in _ (total-moves σ known));
     narrow = motion-narrow _ medianWidth total-sized (omega arith);
+    small = motion-small _ total-sized (omega arith);
   }
 
 -- the promise of the median, by any row of the tables
@@ -197,14 +206,37 @@ medianOf-promise {k} mechanism h =
 
 -- ---- sigma
 
-pub sigmaOf-promise : (t : Total) (mechanism : ℕ) → SigmaEnds t mechanism (sigmaOf t mechanism)
-unfolding sigma sigmaOf Sound value betweenOf up down
-sigmaOf-promise t mechanism = record { encloses = encloses tt (λ σ known. held); equal = refl }
-  where
-    z : ℕ
-    z = cond (eqb mechanism 9) (t .σTU) (t .σTM)
+module _ (t : Total) (mechanism : ℕ) where
+  -- the total, in 10^-3
+  abbrev own : ℕ
+  own = cond (eqb mechanism 9) (t .σTU) (t .σTM)
 
-    held : pos z over 1_000 ∈ ends (betweenOf (1_000_000 * z) 0 (1_000_000 * z) 0 .low) (betweenOf (1_000_000 * z) 0 (1_000_000 * z) 0 .high)
-    held =
-        lies-between (lies-stated (over-Is (pos z) 1_000 (omega arith)) (1_000_000 * z) 0 (omega arith)) (1_000_000 * z) 0 (1_000_000 * z) 0
-        (omega arith) (omega arith)
+  total-in :
+      let e = betweenOf (1_000_000 * own) 0 (1_000_000 * own) 0 in
+      pos own over 1_000 ∈ ends (e .low) (e .high)
+  unfolding up down
+  total-in =
+      lies-between (lies-stated (over-Is (pos own) 1_000 (omega arith)) (1_000_000 * own) 0 (omega arith)) (1_000_000 * own) 0
+      (1_000_000 * own) 0 (omega arith) (omega arith)
+
+  total-small : TotalLimits t → own ≤ 1_000
+  total-small l = go (eqb mechanism 9)
+    where
+      go : (b : Bool) → cond b (t .σTU) (t .σTM) ≤ 1_000
+      go true = l .unspecified
+      go false = l .specified
+
+  total-ends-small : own ≤ 1_000 → SmallerThan (2 ^ 53) (betweenOf (1_000_000 * own) 0 (1_000_000 * own) 0)
+  total-ends-small h = between-small (2 ^ 53) (omega arith) (omega arith) (omega arith) (omega arith)
+
+  sigma-ends : TotalLimits t → SigmaEnds t mechanism (sigmaOf t mechanism)
+  unfolding sigma sigmaOf Sound value betweenOf
+  sigma-ends l = record {
+    encloses = encloses tt (λ σ known. total-in);
+    equal = refl;
+    small = total-ends-small (total-small l);
+  }
+
+-- the promise of sigma, by any row of the table
+pub sigmaOf-promise : (k mechanism : ℕ) → k < 22 → SigmaEnds (totalAt k) mechanism (sigmaOf (totalAt k) mechanism)
+sigmaOf-promise k mechanism h = sigma-ends (totalAt k) mechanism (total-limits k h)

@@ -12,8 +12,8 @@ use Rattle.scenario.specs.Refusal.{booreAtkinson}
 use Rattle.boore_atkinson.specs.declared.table.SiteRow.{SiteRow}
 use Rattle.boore_atkinson.specs.declared.table.DistanceRow.{DistanceRow}
 use Rattle.boore_atkinson.specs.declared.table.MagnitudeRow.{MagnitudeRow}
-use Rattle.boore_atkinson.specs.Tables.{Site, Distance, Magnitude, Total, table3, table6, table7, table8, rowAt}
-use Rattle.boore_atkinson.specs.Rows.{siteParts, distanceParts, magnitudeParts, SiteSigns, DistanceSigns, MagnitudeSigns}
+use Rattle.boore_atkinson.specs.Tables.{Site, Distance, Magnitude, Total, table3, table6, table7, table8, rowAt, totalAt}
+use Rattle.boore_atkinson.specs.Rows.{siteParts, distanceParts, magnitudeParts, SiteSigns, DistanceSigns, MagnitudeSigns, TotalLimits}
 
 -- the limits, each as two numbers in order
 
@@ -35,6 +35,9 @@ magnitudeLimits r =
     (p .0, 300_000) ∷ (p .1, 300_000) ∷ (p .2, 300_000) ∷ (p .3, 300_000) ∷ (p .4, 300_000) ∷ (p .5, 300_000) ∷
     (p .6, 300_000) ∷ (p .7, 300_000) ∷ (p .8, 130_000) ∷ (p .9, 50_000) ∷ (p .10, 80_000) ∷ (p .11, 850) ∷
     (down (r .e5), 0) ∷ (up (r .e6), 0) ∷ (down (r .e7), 0) ∷ []
+
+abbrev totalLimits : Total → List (ℕ × ℕ)
+totalLimits r = (r .σTU, 1_000) ∷ (r .σTM, 1_000) ∷ []
 
 site-signs : (r : Site) → AllLe (siteLimits r) → SiteSigns r
 site-signs r h = record {
@@ -78,6 +81,9 @@ magnitude-signs r h = record {
   e7-above = omega arith;
 }
 
+total-within : (r : Total) → AllLe (totalLimits r) → TotalLimits r
+total-within r h = record { unspecified = omega arith; specified = omega arith }
+
 -- ---- one test over a table
 
 module _ {A : Type 0} (limits : A → List (ℕ × ℕ)) where
@@ -103,6 +109,9 @@ table7-within : Within magnitudeLimits table7
 unfolding up down
 table7-within = tt
 
+table8-within : Within totalLimits table8
+table8-within = tt
+
 pub site-limits : (k : ℕ) → k < 22 → SiteSigns (rowAt k .site)
 unfolding rowAt
 site-limits k h = site-signs _ (row-within siteLimits _ table3 table3-within k h)
@@ -114,6 +123,10 @@ distance-limits k h = distance-signs _ (row-within distanceLimits _ table6 table
 pub magnitude-limits : (k : ℕ) → k < 22 → MagnitudeSigns (rowAt k .magnitude)
 unfolding rowAt
 magnitude-limits k h = magnitude-signs _ (row-within magnitudeLimits _ table7 table7-within k h)
+
+pub total-limits : (k : ℕ) → k < 22 → TotalLimits (totalAt k)
+unfolding totalAt
+total-limits k h = total-within _ (row-within totalLimits _ table8 table8-within k h)
 
 -- ---- the printed periods are those of the scenario's rows, in their order
 

@@ -1,10 +1,11 @@
 -- What is promised of the ends of median, sigma and nonlinear part, whatever the engine computes. proofs/Laws shows it of
 -- `medianOf`, `sigmaOf` and `nonlinearEndsOf`, which the contracts name; nobody has to read those to believe it.
 use mathlib.Core.Path.{_≡_}
-use Prim.Native.Nat.{ℕ, _≤_, _<_}
+use Prim.Native.Nat.{ℕ, _^_, _≤_, _<_}
 use lib.IntN.{pos, negℤ, _+ℤ_}
 use lib.Signed.{_≤ℤ_}
 use Rattle.signed.specs.declared.Ends.{Ends}
+use Rattle.signed.specs.Evaluation.{SmallerThan}
 use Rattle.exact.specs.Fraction.{Fraction}
 use Rattle.exact.specs.Pair.{_∈_}
 use Rattle.exact.specs.Formula.{stated, ends, Encloses}
@@ -34,17 +35,20 @@ pub record NonlinearDomain (k velocity : ℕ) (b : natural.Ends) : Type 0 where
 abbrev pub medianWidth : ℕ
 medianWidth = 49
 
--- e encloses the median by the row r, at every fineness, and is narrow
+-- e encloses the median by the row r, at every fineness, is narrow, and has ends that a double equals
 pub record MedianEnds (r : Row) (magnitude projectionDistance velocity mechanism : ℕ) (e : Ends) : Type 0 where
   pub encloses : Encloses (ends (e .low) (e .high)) (median r magnitude projectionDistance velocity mechanism)
   pub narrow : e .high ≤ℤ (e .low +ℤ pos medianWidth)
+  pub small : SmallerThan (2 ^ 53) e
 
--- e encloses the nonlinear part for every p of a pair, at every fineness
+-- e encloses the nonlinear part for every p of a pair, at every fineness, and has ends that a double equals
 pub record NonlinearEnds (s : Site) (velocity : ℕ) (b : natural.Ends) (e : Ends) : Type 0 where
   pub encloses : (p : Fraction) → p ∈ ends (negℤ (pos (b .high))) (negℤ (pos (b .low))) →
       Encloses (ends (e .low) (e .high)) (nonlinearPart (bnl s velocity) (stated p))
+  pub small : SmallerThan (2 ^ 53) e
 
--- e encloses sigma, at every fineness; "Its two ends are equal"
+-- e encloses sigma, at every fineness, and has ends that a double equals; "Its two ends are equal"
 pub record SigmaEnds (t : Total) (mechanism : ℕ) (e : Ends) : Type 0 where
   pub encloses : Encloses (ends (e .low) (e .high)) (sigma t mechanism)
   pub equal : e .high ≡ e .low
+  pub small : SmallerThan (2 ^ 53) e

@@ -62,6 +62,10 @@ pub record MagnitudeLimits (r : MagnitudeRow) : Type 0 where
   pub e7 : r .10 ≤ 80_000
   pub hinge : r .11 ≤ 850
 
+pub record TotalLimits (r : Total) : Type 0 where
+  pub unspecified : r .σTU ≤ 1_000
+  pub specified : r .σTM ≤ 1_000
+
 -- and the signs that the parts rest on
 pub record SiteSigns (r : Site) : Type 0 where
   pub sizes : SiteLimits (siteParts r)

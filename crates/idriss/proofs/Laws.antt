@@ -1,7 +1,7 @@
 -- What `medianOf` and `sigmaOf` promise (specs/Promise).
 use mathlib.Core.Path.{_≡_, refl}
 use mathlib.Core.Bool.{Bool, true, false}
-use Prim.Native.Nat.{ℕ, _+_, _*_, _-_, _≤_, _<_, min, max}
+use Prim.Native.Nat.{ℕ, _+_, _*_, _-_, _^_, _≤_, _<_, min, max}
 use native.Mathlib.Nat.{le-of-lt}
 use native.Mathlib.Decide.{decLt}
 use native.Mathlib.Omega.{arith}
@@ -10,7 +10,8 @@ use lib.Dec.{ltb, eqb}
 use lib.IntN.{ℤ, pos}
 use Rattle.signed.specs.declared.Ends.{Ends}
 use Rattle.signed.specs.Evaluation.{betweenOf}
-use Rattle.signed.proofs.Whole.{up, down, narrower}
+use Rattle.signed.proofs.Whole.{up, down}
+use Rattle.signed.proofs.Laws.{between-small}
 use Rattle.exact.specs.Fraction.{Fraction, _over_, _+q_, _-q_, _*q_}
 use Rattle.exact.specs.Pair.{_∈_}
 use Rattle.exact.specs.Formula.{ends}
@@ -28,7 +29,7 @@ use Rattle.idriss.specs.Median.{tenThousandths, hundredths, alphaPart, b
 use Rattle.idriss.specs.Promise.{MedianDomain, medianWidth, MedianEnds}
 use Rattle.idriss.specs.Evaluation.{parts, TableLimits, alphaSum, betaOf, gainsOf, lossesOf, distanceTermOf, siteTermOf, medianOf}
 use Rattle.idriss.proofs.Rows.{row-limits}
-use Rattle.idriss.proofs.Bounds.{beta-bounds, far-domain, site-domain, distance-sized, site-sized}
+use Rattle.idriss.proofs.Bounds.{gains-small, losses-small, beta-bounds, far-domain, site-domain, distance-sized, site-sized}
 
 -- ---- the stated numbers
 
@@ -123,12 +124,19 @@ module _ (r : Row) where
       median-ends =
           let f = far-domain near in
           let s = site-domain slow in
+          let far-sizes = distance-sized (l .sizes) low high near in
+          let site-sizes = site-sized (l .sizes) slow in
+          let gains = gains-small (l .sizes) high mechanism in
+          let losses = losses-small (l .sizes) high near in
           record {
             encloses =
                 encloses (((tt, (tt, (omega arith, omega arith))), (tt, (omega arith, omega arith))), tt) median-held;
             narrow =
                 narrow-between gain (loss + far .high + site .high) gain (loss + far .low + site .low) medianWidth
-                (omega (arith, distance-sized (l .sizes) low high near .narrow, site-sized (l .sizes) slow .narrow));
+                (omega (arith, far-sizes .narrow, site-sizes .narrow));
+            small =
+                between-small (2 ^ 53) (omega (arith, gains)) (omega (arith, losses, far-sizes .small, site-sizes .small))
+                (omega (arith, gains)) (omega (arith, losses, far-sizes .order, far-sizes .small, site-sizes .order, site-sizes .small));
           }
 
 -- the promise of the median, by any row of either table

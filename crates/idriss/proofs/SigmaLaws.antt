@@ -1,7 +1,7 @@
 -- What `sigmaOf` promises (specs/Promise).
 use mathlib.Core.Path.{_≡_, refl, sym, _∙_, ap}
 use mathlib.Core.Bool.{Bool, true, false, cond}
-use Prim.Native.Nat.{ℕ, _+_, _*_, _≤_, _<_, min, max}
+use Prim.Native.Nat.{ℕ, _+_, _*_, _^_, _≤_, _<_, min, max}
 use native.Mathlib.Decide.{decLt}
 use native.Mathlib.Omega.{arith}
 use borrow.Author.Tests.{lt-ltb, le-ltb, eqb-true}
@@ -11,6 +11,7 @@ use lib.Signed.{_≤ℤ_}
 use Rattle.signed.specs.declared.Ends.{Ends}
 use Rattle.signed.specs.Evaluation.{betweenOf}
 use Rattle.signed.proofs.Whole.{up, down}
+use Rattle.signed.proofs.Laws.{between-small}
 use Rattle.exact.specs.Fraction.{_over_, _*q_}
 use Rattle.exact.specs.Pair.{_∈_}
 use Rattle.exact.specs.Formula.{ends}
@@ -91,31 +92,45 @@ module _ (period magnitude : ℕ) (d : SigmaDomain period) where
   listed : Listed t
   listed = period-listed t (held-tabled period (d .tabled))
 
-  sigma-held : (σ : Points) → Known σ → value σ (sigma period magnitude) ∈ ends (sigmaOf period magnitude .low) (sigmaOf period magnitude .high)
+  -- 0.06 M, and the term that is added or taken off
+  held-below : t < 1_000 → (σ : Points) → Known σ →
+      let e = betweenOf 1_180_000_000 (m + term .high) 1_180_000_000 (m + term .low) in
+      value σ (sigma period magnitude) ∈ ends (e .low) (e .high)
   unfolding sigma value
-  sigma-held σ known = rw (own-held period) (elim (decLt t 1_000) [
-    | yes h ↦
-        rw (← (sigma-below period magnitude refl refl refl h))
-        (lies-between (lies-difference (lies-sum constant (term-below listed known h)) (magnitude-term (heldTo 500 750 magnitude)))
-        1_180_000_000 (m + term .high) 1_180_000_000 (m + term .low) (omega arith) (omega arith))
-    | no h ↦
-        let g : 1_000 ≤ t = omega arith in
-        rw (← (sigma-above period magnitude refl refl refl g))
-        (lies-between (lies-difference (lies-sum constant (term-held listed known g)) (magnitude-term (heldTo 500 750 magnitude)))
-        (1_180_000_000 + term .low) m (1_180_000_000 + term .high) m (omega arith) (omega arith))
-  ])
+  held-below h σ known =
+      rw (own-held period)
+      (lies-between (lies-difference (lies-sum constant (term-below listed known h)) (magnitude-term (heldTo 500 750 magnitude)))
+      1_180_000_000 (m + term .high) 1_180_000_000 (m + term .low) (omega arith) (omega arith))
 
-  sigma-narrow : sigmaOf period magnitude .high ≤ℤ (sigmaOf period magnitude .low +ℤ pos sigmaWidth)
-  sigma-narrow = elim (decLt t 1_000) [
-    | yes h ↦
-        rw (← (sigma-below period magnitude refl refl refl h))
-        (narrow-between 1_180_000_000 (m + term .high) 1_180_000_000 (m + term .low) sigmaWidth (omega (arith, term-sized listed .narrow)))
-    | no h ↦
-        rw (← (sigma-above period magnitude refl refl refl (omega arith)))
-        (narrow-between (1_180_000_000 + term .low) m (1_180_000_000 + term .high) m sigmaWidth (omega (arith, term-sized listed .narrow)))
-  ]
+  held-above : 1_000 ≤ t → (σ : Points) → Known σ →
+      let e = betweenOf (1_180_000_000 + term .low) m (1_180_000_000 + term .high) m in
+      value σ (sigma period magnitude) ∈ ends (e .low) (e .high)
+  unfolding sigma value
+  held-above h σ known =
+      rw (own-held period)
+      (lies-between (lies-difference (lies-sum constant (term-held listed known h)) (magnitude-term (heldTo 500 750 magnitude)))
+      (1_180_000_000 + term .low) m (1_180_000_000 + term .high) m (omega arith) (omega arith))
+
+  sound : Sound (sigma period magnitude)
+  unfolding sigma Sound
+  sound = ((tt, (tt, (omega arith, omega arith))), tt)
 
   pub sigmaOf-promise : SigmaEnds period magnitude (sigmaOf period magnitude)
-  unfolding sigma Sound
   sigmaOf-promise =
-      record { encloses = encloses (((tt, (tt, (omega arith, omega arith))), tt)) sigma-held; narrow = sigma-narrow }
+      let s = term-sized listed in
+      elim (decLt t 1_000) [
+        | yes h ↦ rw (← (sigma-below period magnitude refl refl refl h)) (record {
+          encloses = encloses sound (held-below h);
+          narrow =
+              narrow-between 1_180_000_000 (m + term .high) 1_180_000_000 (m + term .low) sigmaWidth (omega (arith, s .narrow));
+          small =
+              between-small (2 ^ 53) (omega arith) (omega (arith, s .small)) (omega arith) (omega (arith, s .order, s .small));
+        })
+        | no h ↦ rw (← (sigma-above period magnitude refl refl refl (omega arith))) (record {
+          encloses = encloses sound (held-above (omega arith));
+          narrow =
+              narrow-between (1_180_000_000 + term .low) m (1_180_000_000 + term .high) m sigmaWidth (omega (arith, s .narrow));
+          small =
+              between-small (2 ^ 53) (omega (arith, s .order, s .small)) (omega arith) (omega (arith, s .small)) (omega arith);
+        })
+      ]

@@ -3,10 +3,11 @@
 use mathlib.Core.Path.{_≡_}
 use mathlib.Core.Bool.{true}
 use mathlib.Core.List.{_∷_}
-use Prim.Native.Nat.{ℕ, _≤_, _<_}
+use Prim.Native.Nat.{ℕ, _^_, _≤_, _<_}
 use lib.IntN.{pos, _+ℤ_}
 use lib.Signed.{_≤ℤ_}
 use Rattle.signed.specs.declared.Ends.{Ends}
+use Rattle.signed.specs.Evaluation.{SmallerThan}
 use Rattle.exact.specs.Formula.{ends, Encloses}
 use Rattle.scenario.specs.Lists.{among}
 use Rattle.scenario.specs.Refusal.{idriss}
@@ -33,12 +34,14 @@ medianWidth = 9
 abbrev pub sigmaWidth : ℕ
 sigmaWidth = 2
 
--- e encloses the median by the row r, at every fineness, and is narrow
+-- e encloses the median by the row r, at every fineness, is narrow, and has ends that a double equals
 pub record MedianEnds (r : Row) (magnitude ruptureDistance velocity mechanism : ℕ) (e : Ends) : Type 0 where
   pub encloses : Encloses (ends (e .low) (e .high)) (median r magnitude ruptureDistance velocity mechanism)
   pub narrow : e .high ≤ℤ (e .low +ℤ pos medianWidth)
+  pub small : SmallerThan (2 ^ 53) e
 
--- e encloses sigma, at every fineness, and is narrow
+-- e encloses sigma, at every fineness, is narrow, and has ends that a double equals
 pub record SigmaEnds (period magnitude : ℕ) (e : Ends) : Type 0 where
   pub encloses : Encloses (ends (e .low) (e .high)) (sigma period magnitude)
   pub narrow : e .high ≤ℤ (e .low +ℤ pos sigmaWidth)
+  pub small : SmallerThan (2 ^ 53) e

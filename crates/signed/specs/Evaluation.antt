@@ -1,7 +1,13 @@
 -- What is computed, in whole numbers.
-use Prim.Native.Nat.{ℕ}
+use Prim.Native.Nat.{ℕ, _<_}
 use lib.IntN.{subℕ}
+use lib.Signed.{mag}
 use Rattle.signed.specs.declared.Ends.{Ends}
+
+-- both ends are below n in size
+pub record SmallerThan (n : ℕ) (e : Ends) : Type 0 where
+  pub low : mag (e .low) < n
+  pub high : mag (e .high) < n
 
 -- from a − b to c − d
 unfoldable pub betweenOf : ℕ → ℕ → ℕ → ℕ → Ends
