@@ -2,7 +2,8 @@
 """The table of proved values against exact fractions.
 
 Each row of crates/values/specs/Table.antt is read as text and worked out by
-exact.py and records.py, which were written from document 01 alone.
+exact.py, records.py and models.py, which were written from document 01 and the
+papers alone.
 """
 
 import os
@@ -11,6 +12,8 @@ import sys
 from fractions import Fraction
 
 from exact import Pair, ln_pair, root_pair
+from models import (BOORE_ATKINSON_PERIODS, IDRISS_PERIODS, alpha_part, beta_factor,
+                    slope_pair, table_of)
 from records import read
 
 HERE = os.path.dirname(os.path.abspath(__file__))
@@ -22,11 +25,18 @@ LN = re.compile(r'pairAt ([\d_]+) \(ln ([\d_]+) ([\d_]+)\) ' + ENDS)
 ROOT = re.compile(r'pairAt ([\d_]+) \(root ([\d_]+)\) ' + ENDS)
 NUMBERS = r'\(((?:\w+ ∷ )+)\[\]\)'
 READS = re.compile('reads ' + NUMBERS + ' ' + NUMBERS)
-EVERY = re.compile(r'lnAtEvery ([\d_]+) ([\d_]+) ' + ENDS)
+VALUE = r'\((pos|neg) ([\d_]+) over ([\d_]+)\)'
+LN_EVERY = re.compile(r'atEvery \(ln ([\d_]+) ([\d_]+)\) ' + VALUE)
+SLOPE = re.compile(r'atEvery \(bnl \(siteAt ([\d_]+)\) ([\d_]+)\) ' + VALUE)
+PART = re.compile(r'fraction \((alphaPart|betaFactor) \(idrissAt ([\d_]+) ([\d_]+)\) ([\d_]+)\) ' + VALUE)
 
 # Document 01, 'Values to try', marked P: the subjects that have to be there.
-WANTED = ('pairAt 1 (ln 3 1)', 'pairAt 2 (ln 2 1)', 'lnAtEvery 7 7',
+WANTED = ('pairAt 1 (ln 3 1)', 'pairAt 2 (ln 2 1)', 'atEvery (ln 7 7)',
           'pairAt 1 (root 18_225)',
+          'fraction (alphaPart (idrissAt 10 700) 700)', 'fraction (betaFactor (idrissAt 10 700) 700)',
+          'fraction (alphaPart (idrissAt 10 675) 675)', 'fraction (betaFactor (idrissAt 10 675) 675)',
+          'atEvery (bnl (siteAt 200) 1_800)', 'atEvery (bnl (siteAt 200) 3_000)',
+          'atEvery (bnl (siteAt 200) 7_600)',
           'reads (0x37 ∷ 0x01 ∷ 0xBC ∷ 0x02 ∷ 0xE8 ∷ 0x03 ∷ 0x02 ∷ 0x4B ∷ 0x00 ∷ [])')
 
 
@@ -51,30 +61,62 @@ def stated_ends(values):
     return Pair(Fraction(low, low_over), Fraction(high, high_over))
 
 
+def stated_value(sign, top, bottom):
+    """Return the fraction that a row states."""
+    value = Fraction(int(top.replace('_', '')), int(bottom.replace('_', '')))
+    return -value if sign == 'neg' else value
+
+
+def pair_holds(match, pair_of):
+    """Say whether a formula's pair has the ends that a row states at a fineness."""
+    values = numbers(match)
+    return pair_of(*values[1:-4], values[0]) == stated_ends(values)
+
+
+def every_holds(match, pair_of):
+    """Say whether a formula's pair is the number that a row states, at the first finenesses."""
+    *subject, sign, top, bottom = match.groups()
+    subject = [int(word.replace('_', '')) for word in subject]
+    value = stated_value(sign, top, bottom)
+    return all(pair_of(*subject, n) == Pair(value, value) for n in range(1, 12))
+
+
+def slope_at(period, velocity, n):
+    """Return the pair of the slope of a period's row at fineness n."""
+    return slope_pair(BOORE_ATKINSON_PERIODS.index(period), velocity, n)
+
+
+def part_holds(match):
+    """Say whether a part of Idriss's median is what a row states."""
+    part, period, table_magnitude, magnitude = match.groups()[:4]
+    part = {'alphaPart': alpha_part, 'betaFactor': beta_factor}[part]
+    period, table_magnitude, magnitude = (
+        int(word.replace('_', '')) for word in (period, table_magnitude, magnitude))
+    row = IDRISS_PERIODS.index(period)
+    return part(table_of(table_magnitude), row, magnitude) == stated_value(*match.groups()[4:])
+
+
+def reads_holds(match):
+    """Say whether bytes are read as the fields that a row states."""
+    record, fields = ([int(number, 0) for number in group.split(' ∷ ')[:-1]] for group in match.groups())
+    kind, *values = read(bytes(record))
+    return kind == 'E' and [*values[0], values[1]] == fields
+
+
+KINDS = ((LN, lambda match: pair_holds(match, ln_pair)),
+         (ROOT, lambda match: pair_holds(match, root_pair)),
+         (LN_EVERY, lambda match: every_holds(match, ln_pair)),
+         (SLOPE, lambda match: every_holds(match, slope_at)),
+         (PART, part_holds),
+         (READS, reads_holds))
+
+
 def row_holds(row):
     """Say whether a row states what document 01 gives."""
-    match = LN.fullmatch(row)
-    if match:
-        values = numbers(match)
-        n, a, b = values[:3]
-        return ln_pair(a, b, n) == stated_ends(values)
-    match = ROOT.fullmatch(row)
-    if match:
-        values = numbers(match)
-        n, x = values[:2]
-        return root_pair(x, n) == stated_ends(values)
-    match = EVERY.fullmatch(row)
-    if match:
-        values = numbers(match)
-        a, b = values[:2]
-        return all(ln_pair(a, b, n) == stated_ends(values) for n in range(1, 30))
-    match = READS.fullmatch(row)
-    if match:
-        record, fields = (
-            [int(number, 0) for number in group.split(' ∷ ')[:-1]]
-            for group in match.groups())
-        kind, *values = read(bytes(record))
-        return kind == 'E' and [*values[0], values[1]] == fields
+    for kind, holds in KINDS:
+        match = kind.fullmatch(row)
+        if match:
+            return holds(match)
     raise ValueError(f'a row of a kind that this test does not know: {row}')
 
 

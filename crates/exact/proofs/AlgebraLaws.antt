@@ -4,7 +4,7 @@ use Prim.Native.Nat.{ℕ, _+_, _*_, _≤_}
 use native.Mathlib.Nat.{mul-le-mul-right}
 use native.Mathlib.Omega.{arith}
 use Rattle.exact.specs.Fraction.{Fraction, _≤q_, _≈q_, zeroQ, _+q_, negQ, _-q_, _*q_}
-use Rattle.exact.proofs.FractionLaws.{Is, is-self, zero-Is, le-of, le-as, add-Is, mul-Is, neg-Is, ≤q-refl, ≤q-trans, ≤q-antisym, ≈q-≤q, ≈q-≥q, ≈q-sym, add-mono}
+use Rattle.exact.proofs.FractionLaws.{Is, is-self, zero-Is, le-of, le-as, add-Is, mul-Is, neg-Is, ≤q-refl, ≤q-trans, ≤q-antisym, ≈q-≤q, ≈q-≥q, ≈q-sym, add-mono, neg-anti}
 
 -- (u − v)/d and (s − t)/e are equal
 pub same : {x y : Fraction} {u v d s t e : ℕ} → Is x u v d → Is y s t e → u * e + t * d ≤ s * d + v * e →
@@ -93,3 +93,10 @@ add-zero x = same (is-self x) (add-Is (is-self x) zero-Is) (omega arith) (omega 
 pub add-cancel : (x y : Fraction) → y ≈q negQ x +q (x +q y)
 add-cancel x y =
     same (is-self y) (add-Is (neg-Is (is-self x)) (add-Is (is-self x) (is-self y))) (omega arith) (omega arith)
+
+pub neg-cong : {x y : Fraction} → x ≈q y → negQ x ≈q negQ y
+neg-cong e = ≤q-antisym (neg-anti (≈q-≥q e)) (neg-anti (≈q-≤q e))
+
+pub mul-zero : {x : Fraction} (y : Fraction) → x ≈q zeroQ → x *q y ≈q zeroQ
+mul-zero y e =
+    ≈q-trans (mul-cong-left y e) (same (mul-Is zero-Is (is-self y)) zero-Is (omega arith) (omega arith))

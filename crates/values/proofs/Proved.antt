@@ -3,25 +3,26 @@
 use mathlib.Core.Path.{_≡_, refl}
 use mathlib.Core.Bool.{Bool, true, false, not, _&&_}
 use mathlib.Core.List.{List, [], _∷_}
+use mathlib.Core.Option.{Option, none, some}
 use Prim.Native.Nat.{ℕ, _≤_}
-use native.Mathlib.Nat.{le-refl, sub-self}
-use borrow.Author.Tests.{le-leb}
 use lib.Dec.{T, eqb, leb, eqb→eq, leb→le}
-use Rattle.exact.specs.Fraction.{Fraction, _over_, leQ, zeroQ, negQ, _+q_, _≈q_}
+use Rattle.exact.specs.Fraction.{Fraction, _over_, leQ, zeroQ, negQ, _+q_, _-q_, _*q_}
 use Rattle.exact.specs.Logarithm.{harmonic, lowerSum, upperSum, lnPair}
 use Rattle.exact.specs.Root.{greatest, wholeRoot, rootValues, rootPair}
 use Rattle.exact.specs.Formula.{Formula, stated, ln, root, _⊕_, _⊖_, _⊗_, _⊘_, ifUpTo, eval, Defined}
-use Rattle.exact.proofs.FractionLaws.{≤q-antisym}
+use Rattle.exact.proofs.AlgebraLaws.{≈q-trans}
 use Rattle.exact.proofs.Tests.{and-left, and-right, every, every-at}
-use Rattle.scenario.specs.Refusal.{refusalBy, refusalOf}
+use Rattle.scenario.specs.Refusal.{refusalBy, refusalOf, idrissRow, booreAtkinsonRow}
+use Rattle.idriss.specs.Tables.{takesTable3, rowAt}
+use Rattle.idriss.specs.Median.{alphaPart, betaFactor}
+use Rattle.boore_atkinson.specs.Tables.{rowAt as secondRowAt}
+use Rattle.boore_atkinson.specs.SiteTerm.{bnl}
 use Rattle.record.specs.Layout.{sizeOf, numbersOf, absentWritten}
 use Rattle.record.specs.Outcome.{readingNumber, readingValues, scenarioIn, lengthBy, mapRefusal, readRefusal, readOf}
-use Rattle.values.specs.Table.{Check, pairAt, lnAtEvery, fraction, reads, HasEnds, Holds, AllHold, values}
+use Rattle.values.specs.Table.{Check, pairAt, atEvery, fraction, reads, HasEnds, Holds, AllHold, values, idrissAt, siteAt}
+use Rattle.values.proofs.Constant.{same, same-is, merged, zeroOver, positive, constant, Found, found}
 
 -- ---- the test of a row
-
-unfoldable same : Fraction → Fraction → Bool
-same x y = leQ x y && leQ y x
 
 unfoldable sameList : List ℕ → List ℕ → Bool
 sameList [] [] = true
@@ -40,9 +41,14 @@ sound n (e ⊗ f) = sound n e && sound n f
 sound n (e ⊘ f) = sound n e && (sound n f && not (leQ (eval n f .low) zeroQ))
 sound n (ifUpTo e f A B) = (sound n e && sound n f) && (sound n A && sound n B)
 
+-- a number is found, and it is x
+unfoldable matches : Option Fraction → Fraction → Bool
+matches none x = false
+matches (some y) x = same y x
+
 unfoldable passes : Check → Bool
 passes (pairAt n e x y) = (leb 1 n && sound n e) && (same (eval n e .low) x && same (eval n e .high) y)
-passes (lnAtEvery a b x y) = (leb 1 a && eqb a b) && (same zeroQ x && same zeroQ y)
+passes (atEvery e x) = matches (constant e) x
 passes (fraction x y) = same x y
 passes (reads s xs) = eqb (readingNumber (readOf s)) 0 && sameList (readingValues (readOf s)) xs
 
@@ -50,12 +56,6 @@ passes (reads s xs) = eqb (readingNumber (readOf s)) 0 && sameList (readingValue
 
 both : (x y : Bool) → T (x && y) → T x × T y
 both x y t = (and-left x y t, and-right x y t)
-
-same-is : {x y : Fraction} → T (same x y) → x ≈q y
-unfolding same
-same-is {x} {y} t =
-    let u = both (leQ x y) (leQ y x) t in
-    ≤q-antisym (record { le = u .0 }) (record { le = u .1 })
 
 same-list : (xs ys : List ℕ) → T (sameList xs ys) → xs ≡ ys
 unfolding sameList
@@ -90,10 +90,13 @@ has-ends n e x y t =
     let u = both (same (eval n e .low) x) (same (eval n e .high) y) t in
     record { low = same-is (u .0); high = same-is (u .1) }
 
--- equal arguments: at no fineness is there a term to sum
-ln-same : (a n : ℕ) {x y : Fraction} → zeroQ ≈q x → zeroQ ≈q y → HasEnds (eval n (ln a a)) x y
-unfolding eval lnPair lowerSum upperSum harmonic
-ln-same a n p q = simp (le-leb a a (le-refl a), sub-self) (record { low = p; high = q })
+at-every : (e : Formula) (x : Fraction) (a : Option Fraction) → Found e a → T (matches a x) →
+    (n : ℕ) → 1 ≤ n → Defined n e × HasEnds (eval n e) x x
+unfolding matches
+at-every e x none f t n h = absurd t
+at-every e x (some y) f t n h =
+    let p = f n h in
+    (p .0, record { low = ≈q-trans (p .1 .low) (same-is t); high = ≈q-trans (p .1 .high) (same-is t) })
 
 holds : (c : Check) → T (passes c) → Holds c
 unfolding passes Holds Defined
@@ -101,12 +104,7 @@ holds (pairAt n e x y) t =
     let u = both (leb 1 n && sound n e) (same (eval n e .low) x && same (eval n e .high) y) t in
     let v = both (leb 1 n) (sound n e) (u .0) in
     (leb→le 1 n (v .0), defined n e (v .1), has-ends n e x y (u .1))
-holds (lnAtEvery a b x y) t =
-    let u = both (leb 1 a && eqb a b) (same zeroQ x && same zeroQ y) t in
-    let v = both (leb 1 a) (eqb a b) (u .0) in
-    let w = both (same zeroQ x) (same zeroQ y) (u .1) in
-    let s : 1 ≤ a = leb→le 1 a (v .0) in
-    λ n h. rw (← (eqb→eq a b (v .1))) ((s, s), ln-same a n (same-is (w .0)) (same-is (w .1)))
+holds (atEvery e x) t = at-every e x (constant e) (found e) t
 holds (fraction x y) t = same-is t
 holds (reads s xs) t =
     let u = both (eqb (readingNumber (readOf s)) 0) (sameList (readingValues (readOf s)) xs) t in
@@ -115,7 +113,8 @@ holds (reads s xs) t =
 -- ---- all of them
 
 all-pass : T (every (λ k c. passes c) 0 values)
-unfolding passes sound same sameList eval lnPair lowerSum upperSum harmonic rootPair rootValues wholeRoot greatest leQ
+unfolding passes matches constant merged zeroOver positive idrissAt siteAt rowAt takesTable3 idrissRow booreAtkinsonRow secondRowAt bnl
+    alphaPart betaFactor _-q_ _*q_ sound same sameList eval lnPair lowerSum upperSum harmonic rootPair rootValues wholeRoot greatest leQ
     zeroQ negQ _+q_ _over_ readOf readRefusal mapRefusal scenarioIn lengthBy numbersOf sizeOf absentWritten refusalOf
     refusalBy
 all-pass = tt
