@@ -27,16 +27,16 @@ NUMBERS = r'\(((?:\w+ ∷ )+)\[\]\)'
 READS = re.compile('reads ' + NUMBERS + ' ' + NUMBERS)
 VALUE = r'\((pos|neg) ([\d_]+) over ([\d_]+)\)'
 LN_EVERY = re.compile(r'atEvery \(ln ([\d_]+) ([\d_]+)\) ' + VALUE)
-SLOPE = re.compile(r'atEvery \(bnl \(siteAt ([\d_]+)\) ([\d_]+)\) ' + VALUE)
-PART = re.compile(r'fraction \((alphaPart|betaFactor) \(idrissAt ([\d_]+) ([\d_]+)\) ([\d_]+)\) ' + VALUE)
+SLOPE = re.compile(r'atEvery \(bnl \(booreAtkinson.rowFor ([\d_]+) \.site\) ([\d_]+)\) ' + VALUE)
+PART = re.compile(r'fraction \((alphaPart|betaFactor) \(idriss.rowFor ([\d_]+) ([\d_]+)\) ([\d_]+)\) ' + VALUE)
 
 # Document 01, 'Values to try', marked P: the subjects that have to be there.
 WANTED = ('pairAt 1 (ln 3 1)', 'pairAt 2 (ln 2 1)', 'atEvery (ln 7 7)',
           'pairAt 1 (root 18_225)',
-          'fraction (alphaPart (idrissAt 10 700) 700)', 'fraction (betaFactor (idrissAt 10 700) 700)',
-          'fraction (alphaPart (idrissAt 10 675) 675)', 'fraction (betaFactor (idrissAt 10 675) 675)',
-          'atEvery (bnl (siteAt 200) 1_800)', 'atEvery (bnl (siteAt 200) 3_000)',
-          'atEvery (bnl (siteAt 200) 7_600)',
+          'fraction (alphaPart (idriss.rowFor 700 10) 700)', 'fraction (betaFactor (idriss.rowFor 700 10) 700)',
+          'fraction (alphaPart (idriss.rowFor 675 10) 675)', 'fraction (betaFactor (idriss.rowFor 675 10) 675)',
+          'atEvery (bnl (booreAtkinson.rowFor 200 .site) 1_800)', 'atEvery (bnl (booreAtkinson.rowFor 200 .site) 3_000)',
+          'atEvery (bnl (booreAtkinson.rowFor 200 .site) 7_600)',
           'reads (0x37 ∷ 0x01 ∷ 0xBC ∷ 0x02 ∷ 0xE8 ∷ 0x03 ∷ 0x02 ∷ 0x4B ∷ 0x00 ∷ [])')
 
 
@@ -88,7 +88,7 @@ def slope_at(period, velocity, n):
 
 def part_holds(match):
     """Say whether a part of Idriss's median is what a row states."""
-    part, period, table_magnitude, magnitude = match.groups()[:4]
+    part, table_magnitude, period, magnitude = match.groups()[:4]
     part = {'alphaPart': alpha_part, 'betaFactor': beta_factor}[part]
     period, table_magnitude, magnitude = (
         int(word.replace('_', '')) for word in (period, table_magnitude, magnitude))

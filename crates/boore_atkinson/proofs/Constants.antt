@@ -5,7 +5,7 @@ use Prim.Native.Nat.{ℕ, _+_, _*_, _≤_, _<_}
 use native.Mathlib.Omega.{arith}
 use lib.Count.{leadingZeros}
 use lib.IntN.{pos, negℤ}
-use Rattle.signed.proofs.Whole.{up, down}
+use Rattle.signed.specs.Whole.{up, down}
 use Rattle.exact.specs.Fraction.{Fraction, _over_, _-q_, _*q_, _/q_, recipQ}
 use Rattle.exact.proofs.FractionLaws.{over-Is}
 use Rattle.exact.proofs.Points.{Points}
@@ -17,7 +17,7 @@ use Rattle.logarithm.specs.Evaluation.{scaledOf, nearOneOf, mantissaLnOf, scale
 use Rattle.logarithm.proofs.Enclosure.{Known}
 use Rattle.outward.specs.Evaluation.{productOf}
 use Rattle.outward.proofs.Laws.{Held, HeldBelow, product-held, recip-held}
-use Rattle.boore_atkinson.specs.Constants.{lnLow, lnA1, lnA2, lnTen, overSlow, overFast, cOver, dOver}
+use Rattle.boore_atkinson.specs.Constants.{minusLnLow, minusLnA1, minusLnA2, lnTen, overSlow, overFast, cOver, dOver}
 
 abbrev pair : ℕ → ℕ → Ends
 pair low high = record { low = low; high = high }
@@ -26,9 +26,9 @@ pair low high = record { low = low; high = high }
 
 -- the ends that the logarithm computes
 record Computed : Type 0 where
-  low : lnOf 10 6 ≡ lnLow
-  first : lnOf 100 3 ≡ lnA1
-  second : lnOf 100 9 ≡ lnA2
+  low : lnOf 10 6 ≡ minusLnLow
+  first : lnOf 100 3 ≡ minusLnA1
+  second : lnOf 100 9 ≡ minusLnA2
   ten : lnOf 10 1 ≡ lnTen
   slow : lnOf 3_000 1_800 ≡ pair 510_825_623 510_825_624
   fast : lnOf 7_600 3_000 ≡ pair 929_535_958 929_535_959
@@ -57,23 +57,23 @@ module _ {σ : Points} (known : Known σ) where
   within : {a b : ℕ} → 1 ≤ b → b ≤ a → a ≤ 10_000 → LnDomain a b
   within p q r = record { least = p; order = q; small = omega arith }
 
-  pub low-held : Held (σ .lnAt 10 6) lnLow
+  pub low-held : Held (σ .lnAt 10 6) minusLnLow
   low-held = at-computed (within (omega arith) (omega arith) (omega arith)) (computed .low)
 
   -- ln(a/b), a below b, is that of b/a, negated
   turned : (a b : ℕ) {e : Ends} → a < b → Held (σ .lnAt b a) e → HeldBelow (σ .lnAt a b) e
   turned a b less h = rw (known .ln-negated less) (lies-negated h)
 
-  first-held : Held (σ .lnAt 100 3) lnA1
+  first-held : Held (σ .lnAt 100 3) minusLnA1
   first-held = at-computed (within (omega arith) (omega arith) (omega arith)) (computed .first)
 
-  pub first-below : HeldBelow (σ .lnAt 3 100) lnA1
+  pub first-below : HeldBelow (σ .lnAt 3 100) minusLnA1
   first-below = turned 3 100 (omega arith) first-held
 
-  second-held : Held (σ .lnAt 100 9) lnA2
+  second-held : Held (σ .lnAt 100 9) minusLnA2
   second-held = at-computed (within (omega arith) (omega arith) (omega arith)) (computed .second)
 
-  pub second-below : HeldBelow (σ .lnAt 9 100) lnA2
+  pub second-below : HeldBelow (σ .lnAt 9 100) minusLnA2
   second-below = turned 9 100 (omega arith) second-held
 
   ten-held : Held (σ .lnAt 10 1) lnTen

@@ -19,7 +19,7 @@ use Rattle.outward.specs.Evaluation.{productOf, sumOf, spanOf}
 use Rattle.outward.proofs.Laws.{Held, HeldBelow, product-held, sum-held, span-left, span-right}
 use Rattle.boore_atkinson.specs.declared.Motion.{Motion}
 use Rattle.boore_atkinson.specs.SiteTerm.{x, y, c, d, lowPart, transition, highPart, nonlinearPart}
-use Rattle.boore_atkinson.specs.Constants.{lnLow, lnA1, lnA2, lnTen, cOver, dOver}
+use Rattle.boore_atkinson.specs.Constants.{minusLnLow, minusLnA1, minusLnA2, lnTen, cOver, dOver}
 use Rattle.boore_atkinson.specs.Evaluation.{exactly, zOf, cubicOf, straightOf, branchOf, curveOf}
 use Rattle.boore_atkinson.proofs.Constants.{low-held, first-below, second-below, ten-below, c-held, d-held}
 use Rattle.boore_atkinson.proofs.RockLaws.{Moves}
@@ -97,11 +97,11 @@ module _ {σ : Points} (known : Known σ) {P : Fraction} {b : Ends} (h : HeldBel
   z-held : σ .lnAt 3 100 <q P → P ≤q σ .lnAt 9 100 → Held (P -q σ .lnAt 3 100) (zOf b)
   unfolding zOf
   z-held lt le =
-      let p : Lies P 0 (b .high) 0 (max (b .low) (lnA2 .low)) = record {
+      let p : Lies P 0 (b .high) 0 (max (b .low) (minusLnA2 .low)) = record {
         from = h .from;
-        to = least-of (b .low) (lnA2 .low) (h .to) (≤q-trans le (second-below known .to));
+        to = least-of (b .low) (minusLnA2 .low) (h .to) (≤q-trans le (second-below known .to));
       } in
-      not-below (lies-wider (lies-difference p (first-below known)) (lnA1 .low) (b .high) (lnA1 .high) (max (b .low) (lnA2 .low)) (omega arith) (omega arith))
+      not-below (lies-wider (lies-difference p (first-below known)) (minusLnA1 .low) (b .high) (minusLnA1 .high) (max (b .low) (minusLnA2 .low)) (omega arith) (omega arith))
       (above-zero lt)
 
   cubic-held : {z c' d' : Fraction} {e : Ends} → Held z e → Held c' cOver → Held d' dOver →
@@ -115,8 +115,8 @@ module _ {σ : Points} (known : Known σ) {P : Fraction} {b : Ends} (h : HeldBel
   straight-held : σ .lnAt 9 100 <q P → Held (κ +q (P -q σ .lnAt 1 10)) (straightOf b)
   unfolding straightOf
   straight-held lt =
-      let p : Lies P 0 (min (b .high) (lnA2 .high)) 0 (b .low) = record {
-        from = most-of (b .high) (lnA2 .high) (h .from) (≤q-trans (second-below known .from) (<q-≤q lt));
+      let p : Lies P 0 (min (b .high) (minusLnA2 .high)) 0 (b .low) = record {
+        from = most-of (b .high) (minusLnA2 .high) (h .from) (≤q-trans (second-below known .from) (<q-≤q lt));
         to = h .to;
       } in
       let o = passes h (second-below known) lt in
@@ -126,7 +126,7 @@ module _ {σ : Points} (known : Known σ) {P : Fraction} {b : Ends} (h : HeldBel
 
 -- n (k + θ) for θ between q's ends: β below zero, −β between n's ends
 product-moves : {β κ θ : Fraction} {n k q : Ends} → HeldBelow β n → Held κ k → Held θ q →
-    Moves (β *q (negQ κ +q θ)) (record { up = productOf n k; down = productOf n q })
+    Moves (β *q (negQ κ +q θ)) (record { gain = productOf n k; loss = productOf n q })
 product-moves {β} {κ} {θ} h low curve =
     let ν = lies-negated h in
     lies-same (≈q-sym (mul-add β (negQ κ) θ))
@@ -161,7 +161,7 @@ module _ {σ : Points} (known : Known σ) (slope p : Formula) {n b : Ends} (h : 
 
   -- the evaluation, by θ's ends
   abbrev own : Ends → Motion
-  own q = record { up = productOf n lnLow; down = productOf n q }
+  own q = record { gain = productOf n minusLnLow; loss = productOf n q }
 
   low-same : value σ (lowPart slope) ≈q β *q negQ (σ .lnAt 10 6)
   unfolding value lowPart
@@ -173,7 +173,7 @@ module _ {σ : Points} (known : Known σ) (slope p : Formula) {n b : Ends} (h : 
   low-moves le =
       lies-same (≈q-trans low-same (mul-cong-right β (add-zero (negQ (σ .lnAt 10 6)))))
       (product-moves h (low-held known)
-      (branch-from b lnA1 (exactly 0) _ (reaches k (first-below known) le) (lies-stated zero-Is 0 0 (omega arith))))
+      (branch-from b minusLnA1 (exactly 0) _ (reaches k (first-below known) le) (lies-stated zero-Is 0 0 (omega arith))))
 
   -- up to ln 0.09
   transition-moves : σ .lnAt 3 100 <q P → P ≤q σ .lnAt 9 100 → Moves (value σ (transition slope p)) (own (curveOf b))
@@ -187,8 +187,8 @@ module _ {σ : Points} (known : Known σ) (slope p : Formula) {n b : Ends} (h : 
       (gathered β (negQ (σ .lnAt 10 6)) _ _ (z *q z) (z *q z *q z) (c-over β w l (recipQ (l *q l)) (pos 3 over 1))
       (d-over β w l (recipQ (l *q l *q l)) (pos 2 over 1) (negℤ (pos 1) over 1))))
       (product-moves h (low-held known)
-      (branch-below b lnA1 (exactly 0) _ (passes k (first-below known) lt)
-      (branch-from b lnA2 _ (straightOf b) (reaches k (second-below known) le)
+      (branch-below b minusLnA1 (exactly 0) _ (passes k (first-below known) lt)
+      (branch-from b minusLnA2 _ (straightOf b) (reaches k (second-below known) le)
       (cubic-held known k (z-held known k lt le) (c-held known) (d-held known)))))
 
   -- above
@@ -197,8 +197,8 @@ module _ {σ : Points} (known : Known σ) (slope p : Formula) {n b : Ends} (h : 
   high-moves lt beyond =
       lies-same (mul-cong-right β (add-cancel (σ .lnAt 10 6) (P -q σ .lnAt 1 10)))
       (product-moves h (low-held known)
-      (branch-below b lnA1 (exactly 0) _ (passes k (first-below known) lt)
-      (branch-below b lnA2 (cubicOf (zOf b)) _ (passes k (second-below known) beyond) (straight-held known k beyond))))
+      (branch-below b minusLnA1 (exactly 0) _ (passes k (first-below known) lt)
+      (branch-below b minusLnA2 (cubicOf (zOf b)) _ (passes k (second-below known) beyond) (straight-held known k beyond))))
 
   pub nonlinear-moves : Moves (value σ (nonlinearPart slope p)) (own (curveOf b))
   unfolding value nonlinearPart

@@ -2,13 +2,15 @@
 use mathlib.Core.Path.{_≡_, refl}
 use mathlib.Core.Bool.{Bool, true, false, cond}
 use Prim.Native.Nat.{ℕ, _+_, _*_, _-_, _^_, _≤_, _<_}
+use native.Mathlib.Nat.{le-refl}
 use native.Mathlib.Omega.{arith}
 use lib.Dec.{leb, ltb, eqb}
 use lib.IntN.{pos, negℤ, _+ℤ_}
 use lib.Signed.{_≤ℤ_}
 use Rattle.signed.specs.declared.Ends as signed
 use Rattle.signed.specs.Evaluation.{SmallerThan, betweenOf}
-use Rattle.signed.proofs.Whole.{up, down, zero-sub}
+use Rattle.signed.specs.Whole.{up, down}
+use Rattle.signed.proofs.Whole.{zero-sub}
 use Rattle.signed.proofs.Laws.{between-small}
 use Rattle.exact.specs.Fraction.{Fraction, _over_, zeroQ, _-q_}
 use Rattle.exact.specs.Pair.{_∈_}
@@ -21,16 +23,16 @@ use Rattle.logarithm.proofs.Enclosure.{Known, encloses}
 use Rattle.outward.specs.Evaluation.{Sized, sumOf}
 use Rattle.outward.proofs.Laws.{HeldBelow, sized-wider, sum-sized, lies-between, narrow-between}
 use Rattle.boore_atkinson.specs.declared.Motion.{Motion}
-use Rattle.boore_atkinson.specs.Tables.{Site, Distance, Magnitude, Total, Row, rowAt, totalAt, pga}
-use Rattle.boore_atkinson.specs.Rock.{X, R, lnR, distanceTerm, onRock}
+use Rattle.boore_atkinson.specs.Tables.{SiteAmplification, DistanceScaling, MagnitudeScaling, Total, Row, rowAt, totalAt, pga}
+use Rattle.boore_atkinson.specs.Rock.{sumOfSquares, R, lnR, distanceTerm, onRock}
 use Rattle.boore_atkinson.specs.SiteTerm.{b1Of, b2Of, linearPart, bnl, x, y, c, d, lowPart, transition, highPart, nonlinearPart}
 use Rattle.boore_atkinson.specs.Median.{p, median, sigma}
 use Rattle.boore_atkinson.specs.Rows.{siteParts, distanceParts, magnitudeParts, SiteSigns, DistanceSigns, MagnitudeSigns, TotalLimits}
-use Rattle.boore_atkinson.specs.Promise.{MedianDomain, NonlinearDomain, medianWidth, MedianEnds, NonlinearEnds, SigmaEnds}
-use Rattle.boore_atkinson.specs.Evaluation.{slantOf, rockOf, belowOf, linearOf, nonlinearOf, endsOf, plusOf, medianOf, nonlinearEndsOf, sigmaOf}
+use Rattle.boore_atkinson.specs.Promise.{MedianDomain, NonlinearDomain, medianWidth, nonlinearWidth, MedianEnds, NonlinearEnds, SigmaEnds}
+use Rattle.boore_atkinson.specs.Evaluation.{effectiveOf, rockOf, belowOf, linearOf, nonlinearOf, endsOf, plusOf, medianOf, nonlinearEndsOf, sigmaOf}
 use Rattle.boore_atkinson.specs.Sizes.{MotionSized}
 use Rattle.boore_atkinson.proofs.Rows.{site-limits, distance-limits, magnitude-limits, total-limits}
-use Rattle.boore_atkinson.proofs.RockSizes.{Squares, squares, slant-domain, slant-sized, rock-sized, pga-order, below-sized}
+use Rattle.boore_atkinson.proofs.RockSizes.{Squares, squares, effective-domain, effective-sized, rock-sized, pga-order, below-sized}
 use Rattle.boore_atkinson.proofs.RockLaws.{Moves, plus-moves, rock-moves}
 use Rattle.boore_atkinson.proofs.SiteLaws.{linear-moves, slope-below}
 use Rattle.boore_atkinson.proofs.SiteSizes.{linear-sized, nonlinear-sized, nonlinear-narrow}
@@ -40,43 +42,43 @@ use Rattle.boore_atkinson.proofs.CurveLaws.{nonlinear-moves}
 
 pub motion-wider : {a : Motion} {w b w' b' : ℕ} → MotionSized a w b → w ≤ w' → b ≤ b' → MotionSized a w' b'
 motion-wider s hw hb = record {
-  up = sized-wider (s .up) hw hb;
-  down = sized-wider (s .down) hw hb;
+  gain = sized-wider (s .gain) hw hb;
+  loss = sized-wider (s .loss) hw hb;
   together = omega (arith, s .together);
 }
 
 pub plus-sized : {a b : Motion} {w A v B : ℕ} → MotionSized a w A → MotionSized b v B → MotionSized (plusOf a b) (w + v) (A + B)
 unfolding plusOf sumOf
 plus-sized p q = record {
-  up = sum-sized (p .up) (q .up);
-  down = sum-sized (p .down) (q .down);
+  gain = sum-sized (p .gain) (q .gain);
+  loss = sum-sized (p .loss) (q .loss);
   together = omega (arith, p .together, q .together);
 }
 
 moves-in : {x : Fraction} (a : Motion) → Moves x a → x ∈ ends (endsOf a .low) (endsOf a .high)
 unfolding endsOf
-moves-in a h = lies-between h (a .up .low) (a .down .high) (a .up .high) (a .down .low) (omega arith) (omega arith)
+moves-in a h = lies-between h (a .gain .low) (a .loss .high) (a .gain .high) (a .loss .low) (omega arith) (omega arith)
 
 motion-narrow : (a : Motion) (w : ℕ) {v b : ℕ} → MotionSized a v b → v ≤ w → endsOf a .high ≤ℤ (endsOf a .low +ℤ pos w)
 unfolding endsOf
 motion-narrow a w s h =
-    narrow-between (a .up .low) (a .down .high) (a .up .high) (a .down .low) w (omega (arith, s .together))
+    narrow-between (a .gain .low) (a .loss .high) (a .gain .high) (a .loss .low) w (omega (arith, s .together))
 
 motion-small : (a : Motion) {w b : ℕ} → MotionSized a w b → b < 2 ^ 53 → SmallerThan (2 ^ 53) (endsOf a)
 unfolding endsOf
 motion-small a s h =
-    between-small (2 ^ 53) (omega (arith, s .up .order, s .up .small)) (omega (arith, s .down .small)) (omega (arith, s .up .small))
-    (omega (arith, s .down .order, s .down .small))
+    between-small (2 ^ 53) (omega (arith, s .gain .order, s .gain .small)) (omega (arith, s .loss .small)) (omega (arith, s .gain .small))
+    (omega (arith, s .loss .order, s .loss .small))
 
 -- ---- logarithms are of numbers of at least 1, and divisors above zero
 
 rock-sound : (r : Row) (m : ℕ) {d : ℕ} (mechanism : ℕ) → Squares d (r .distance .h) → Sound (onRock r m d mechanism)
 unfolding Sound onRock distanceTerm R lnR
 rock-sound r m mechanism s =
-    let n = slant-domain s in
+    let n = effective-domain s in
     (((tt, (tt, (omega (arith, n .order), omega arith))), (tt, ((tt, tt), tt))), tt)
 
-slope-sound : (s : Site) {v : ℕ} → 1_800 ≤ v → Sound (bnl s v)
+slope-sound : (s : SiteAmplification) {v : ℕ} → 1_800 ≤ v → Sound (bnl s v)
 unfolding Sound bnl
 slope-sound s {v} slow = go (leb v 1_800) (leb v 3_000) (ltb v 7_600)
   where
@@ -118,7 +120,7 @@ nonlinear-sound slope q s t =
 -- ---- the nonlinear part
 
 -- wherever −p lies within b
-nonlinear-encloses : (s : Site) → SiteSigns s → {v : ℕ} → 1_800 ≤ v → v ≤ 13_000 → (q : Formula) (b : Ends) → Sound q →
+nonlinear-encloses : (s : SiteAmplification) → SiteSigns s → {v : ℕ} → 1_800 ≤ v → v ≤ 13_000 → (q : Formula) (b : Ends) → Sound q →
     ((σ : Points) → Known σ → HeldBelow (value σ q) b) →
     let e = nonlinearEndsOf s v b in
     Encloses (ends (e .low) (e .high)) (nonlinearPart (bnl s v) q)
@@ -138,6 +140,10 @@ unfolding Sound value nonlinearEndsOf
 nonlinear-promise {k} {v} {b} h = record {
   encloses = λ q inside.
       nonlinear-encloses (rowAt k .site) (site-limits k (h .row)) (h .slow) (h .fast) (stated q) b tt (λ σ known. below-of b inside);
+  narrow = λ w.
+      motion-narrow _ nonlinearWidth
+      (nonlinear-narrow (site-limits k (h .row) .sizes) (h .slow)
+      (record { order = h .order; narrow = w; small = le-refl (b .high) })) (omega arith);
   small = motion-small _ (nonlinear-sized b (site-limits k (h .row) .sizes) (h .slow) (h .order)) (omega arith);
 }
 
@@ -148,7 +154,7 @@ p-below : {m d : ℕ} (mechanism : ℕ) → 500 ≤ m → m ≤ 800 → d ≤ 19
 unfolding p belowOf rockOf
 p-below {m} {d} mechanism least most near known =
     let l = distance-limits 0 (omega arith) in
-    let o = pga-order m mechanism (slantOf d (pga .distance .h)) (l .sizes) in
+    let o = pga-order m mechanism (effectiveOf d (pga .distance .h)) (l .sizes) in
     let a = rock-moves pga l (magnitude-limits 0 (omega arith)) least most known near mechanism in
     lies-wider a _ _ _ _ (omega (arith, o)) (omega (arith, o))
 
@@ -157,7 +163,7 @@ p-below {m} {d} mechanism least most near known =
 module _ (r : Row) (s : SiteSigns (r .site)) (l : DistanceSigns (r .distance)) (k : MagnitudeSigns (r .magnitude)) {m d v : ℕ}
     (least : 500 ≤ m) (most : m ≤ 800) (near : d ≤ 19_999) (slow : 1_800 ≤ v) (fast : v ≤ 13_000) (mechanism : ℕ) where
   abbrev rock : Motion
-  rock = rockOf (distanceParts (r .distance)) (magnitudeParts (r .magnitude)) m (slantOf d (r .distance .h)) mechanism
+  rock = rockOf (distanceParts (r .distance)) (magnitudeParts (r .magnitude)) m (effectiveOf d (r .distance .h)) mechanism
 
   abbrev linear : Motion
   linear = linearOf (siteParts (r .site)) v
@@ -169,7 +175,7 @@ module _ (r : Row) (s : SiteSigns (r .site)) (l : DistanceSigns (r .distance)) (
   fits = squares near (l .sizes .shallow) (l .sizes .deep)
 
   rock-fits : MotionSized rock 4 80_000_000_000
-  rock-fits = rock-sized mechanism (l .sizes) (k .sizes) most (slant-sized fits)
+  rock-fits = rock-sized mechanism (l .sizes) (k .sizes) most (effective-sized fits)
 
   pub total-sized : MotionSized (plusOf (plusOf rock linear) nonlinear) 49 98_538_000_001
   total-sized =

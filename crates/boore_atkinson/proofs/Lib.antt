@@ -7,3 +7,4 @@ pub mod CurveLaws
 pub mod SiteSizes
 pub mod Laws
 pub mod Sums
+pub mod Thresholds

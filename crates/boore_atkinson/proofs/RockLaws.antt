@@ -6,7 +6,7 @@ use native.Mathlib.Omega.{arith}
 use borrow.Author.Tests.{leb-true, leb-false}
 use lib.Dec.{eqb, leb}
 use lib.IntN.{ℤ, pos}
-use Rattle.signed.proofs.Whole.{up, down}
+use Rattle.signed.specs.Whole.{up, down}
 use Rattle.exact.specs.Fraction.{Fraction, _over_, _+q_, negQ, _-q_, _*q_}
 use Rattle.exact.specs.Pair.{_∈_}
 use Rattle.exact.specs.Root.{rootValues}
@@ -23,15 +23,15 @@ use Rattle.boore_atkinson.specs.declared.Motion.{Motion}
 use Rattle.boore_atkinson.specs.declared.rock.Exact.{Exact}
 use Rattle.boore_atkinson.specs.declared.table.DistanceRow.{DistanceRow}
 use Rattle.boore_atkinson.specs.declared.table.MagnitudeRow.{MagnitudeRow}
-use Rattle.boore_atkinson.specs.Tables.{Distance, Magnitude, Row}
-use Rattle.boore_atkinson.specs.Rock.{hundredThousandths, hundredths, X, R, lnR, geometricSpread, distanceTerm, e, magnitudeTerm, onRock}
+use Rattle.boore_atkinson.specs.Tables.{DistanceScaling, MagnitudeScaling, Row}
+use Rattle.boore_atkinson.specs.Rock.{hundredThousandths, hundredths, sumOfSquares, R, lnR, geometricalSpreading, distanceTerm, e, magnitudeTerm, onRock}
 use Rattle.boore_atkinson.specs.Rows.{distanceParts, magnitudeParts, DistanceSigns, MagnitudeSigns}
-use Rattle.boore_atkinson.specs.Evaluation.{kmOf, slantOf, spreadOf, fallOf, levelOf, magnitudeOf, rockOf, plusOf}
-use Rattle.boore_atkinson.proofs.RockSizes.{spread-bounds, Squares, squares, slant-domain}
+use Rattle.boore_atkinson.specs.Evaluation.{kmOf, effectiveOf, spreadOf, fallOf, levelOf, magnitudeOf, rockOf, plusOf}
+use Rattle.boore_atkinson.proofs.RockSizes.{spread-bounds, Squares, squares, effective-domain}
 
 -- x is something between up's ends less something between down's
 abbrev pub Moves : Fraction → Motion → Type 0
-Moves x a = Lies x (a .up .low) (a .down .high) (a .up .high) (a .down .low)
+Moves x a = Lies x (a .gain .low) (a .loss .high) (a .gain .high) (a .loss .low)
 
 pub plus-moves : {x y : Fraction} {a b : Motion} → Moves x a → Moves y b → Moves (x +q y) (plusOf a b)
 unfolding plusOf sumOf
@@ -63,13 +63,13 @@ away-Is {m} low =
     is-natural (10 * (m - 450)) (add-Is (over-Is (pos m) 100 (omega arith)) (neg-Is (over-Is (pos 45) 10 (omega arith))))
     (omega arith)
 
-module _ (r : Distance) (l : DistanceSigns r) {m : ℕ} (least : 500 ≤ m) (most : m ≤ 800) where
+module _ (r : DistanceScaling) (l : DistanceSigns r) {m : ℕ} (least : 500 ≤ m) (most : m ≤ 800) where
   abbrev spread : ℕ
   spread = spreadOf (distanceParts r) m
 
   -- c1 + c2 (M − Mref), halved
-  spread-Is : Is (geometricSpread r m *q pos 1 over 2) 0 (1_000_000 * spread) 20_000_000_000_000
-  unfolding geometricSpread spreadOf up down
+  spread-Is : Is (geometricalSpreading r m *q pos 1 over 2) 0 (1_000_000 * spread) 20_000_000_000_000
+  unfolding geometricalSpreading spreadOf up down
   spread-Is =
       let b = spread-bounds (l .sizes) most in
       let i =
@@ -83,18 +83,18 @@ module _ (r : Distance) (l : DistanceSigns r) {m : ℕ} (least : 500 ≤ m) (mos
     fits = squares near (l .sizes .shallow) (l .sizes .deep)
 
     -- (c1 + c2 (M − Mref)) ln R
-    near-held : HeldBelow (geometricSpread r m *q (pos 1 over 2 *q σ .lnAt (X d (r .h)) 10_000)) (multipleOf spread (slantOf d (r .h) .ln))
-    unfolding slantOf
-    near-held =
-        lies-same (≈q-sym (mul-assoc (geometricSpread r m) (pos 1 over 2) (σ .lnAt (X d (r .h)) 10_000)))
+    spreading-held : HeldBelow (geometricalSpreading r m *q (pos 1 over 2 *q σ .lnAt (sumOfSquares d (r .h)) 10_000)) (multipleOf spread (effectiveOf d (r .h) .ln))
+    unfolding effectiveOf
+    spreading-held =
+        lies-same (≈q-sym (mul-assoc (geometricalSpreading r m) (pos 1 over 2) (σ .lnAt (sumOfSquares d (r .h)) 10_000)))
         (minus-held (1_000_000 * spread) 20_000_000_000_000 spread (omega arith)
-        (lies-natural _ _ (known .ln-within (slant-domain fits))) spread-Is)
+        (lies-natural _ _ (known .ln-within (effective-domain fits))) spread-Is)
 
     -- c3 R
-    far-held : HeldBelow (hundredThousandths (r .c3) *q (pos 1 over 100 *q σ .rootAt (X d (r .h)))) (multipleOf (200 * down (r .c3)) (slantOf d (r .h) .km))
-    unfolding slantOf
-    far-held =
-        minus-held (down (r .c3)) 100_000 (200 * down (r .c3)) (omega arith) (km-held (rootOf (X d (r .h))) (known .root-within (X d (r .h))))
+    anelastic-held : HeldBelow (hundredThousandths (r .c3) *q (pos 1 over 100 *q σ .rootAt (sumOfSquares d (r .h)))) (multipleOf (200 * down (r .c3)) (effectiveOf d (r .h) .km))
+    unfolding effectiveOf
+    anelastic-held =
+        minus-held (down (r .c3)) 100_000 (200 * down (r .c3)) (omega arith) (km-held (rootOf (sumOfSquares d (r .h))) (known .root-within (sumOfSquares d (r .h))))
         (over-below (r .c3) 100_000 (omega arith) (l .c3-below))
 
     -- −c3 Rref
@@ -105,14 +105,14 @@ module _ (r : Distance) (l : DistanceSigns r) {m : ℕ} (least : 500 ≤ m) (mos
         (10_000 * down (r .c3)) 0 (omega arith)
 
     distance-lies :
-        let f = fallOf (distanceParts r) m (slantOf d (r .h)) in
+        let f = fallOf (distanceParts r) m (effectiveOf d (r .h)) in
         Lies (value σ (distanceTerm r m d)) (10_000 * down (r .c3)) (f .high) (10_000 * down (r .c3)) (f .low)
     unfolding value distanceTerm lnR R fallOf sumOf _-q_
     distance-lies =
         lies-wider
-        (lies-sum near-held
-        (lies-same (≈q-sym (mul-add (hundredThousandths (r .c3)) (pos 1 over 100 *q σ .rootAt (X d (r .h))) (negQ (pos 1 over 1))))
-        (lies-sum far-held pegged))) _ _ _ _ (omega arith) (omega arith)
+        (lies-sum spreading-held
+        (lies-same (≈q-sym (mul-add (hundredThousandths (r .c3)) (pos 1 over 100 *q σ .rootAt (sumOfSquares d (r .h))) (negQ (pos 1 over 1))))
+        (lies-sum anelastic-held pegged))) _ _ _ _ (omega arith) (omega arith)
 
 -- ---- the magnitude term
 
@@ -122,7 +122,7 @@ ExactLies x e = Lies x (e .gain) (e .loss) (e .gain) (e .loss)
 stated-lies : (z : ℤ) → ExactLies (hundredThousandths z) (record { gain = 10_000 * up z; loss = 10_000 * down z })
 stated-lies z = lies-stated (over-Is z 100_000 (omega arith)) _ _ (omega arith)
 
-level-lies : (r : Magnitude) (mechanism : ℕ) → ExactLies (hundredThousandths (e r mechanism)) (levelOf (magnitudeParts r) mechanism)
+level-lies : (r : MagnitudeScaling) (mechanism : ℕ) → ExactLies (hundredThousandths (e r mechanism)) (levelOf (magnitudeParts r) mechanism)
 unfolding e levelOf
 level-lies r mechanism = go (eqb mechanism 9) (eqb mechanism 0) (eqb mechanism 1)
   where
@@ -137,7 +137,7 @@ level-lies r mechanism = go (eqb mechanism 9) (eqb mechanism 0) (eqb mechanism 1
     go false false true = stated-lies (r .e3)
     go false false false = stated-lies (r .e4)
 
-module _ (r : Magnitude) (l : MagnitudeSigns r) (m : ℕ) where
+module _ (r : MagnitudeScaling) (l : MagnitudeSigns r) (m : ℕ) where
   -- M − Mh
   abbrev away : Fraction
   away = hundredths m -q hundredths (r .Mh)
@@ -193,7 +193,7 @@ module _ (r : Magnitude) (l : MagnitudeSigns r) (m : ℕ) where
 module _ (r : Row) (l : DistanceSigns (r .distance)) (k : MagnitudeSigns (r .magnitude)) {m : ℕ} (least : 500 ≤ m) (most : m ≤ 800) where
   pub rock-moves : {σ : Points} → Known σ → {d : ℕ} → d ≤ 19_999 → (mechanism : ℕ) →
       Moves (value σ (onRock r m d mechanism))
-      (rockOf (distanceParts (r .distance)) (magnitudeParts (r .magnitude)) m (slantOf d (r .distance .h)) mechanism)
+      (rockOf (distanceParts (r .distance)) (magnitudeParts (r .magnitude)) m (effectiveOf d (r .distance .h)) mechanism)
   unfolding value onRock rockOf
   rock-moves known near mechanism =
       lies-wider

@@ -6,21 +6,21 @@ use native.Mathlib.Nat.{mul-le-mul, mul-le-mul-left, mul-le-mul-right}
 use native.Mathlib.Omega.{arith}
 use borrow.Author.Tests.{leb-true, leb-false}
 use lib.Dec.{eqb, leb}
-use Rattle.signed.proofs.Whole.{up, down}
+use Rattle.signed.specs.Whole.{up, down}
 use Rattle.logarithm.specs.Promise.{LnDomain}
 use Rattle.logarithm.specs.Evaluation.{rootOf}
 use Rattle.logarithm.proofs.Laws.{rootOf-small}
 use Rattle.outward.specs.Evaluation.{Sized, multipleOf}
 use Rattle.outward.proofs.Laws.{ln-sized, multiple-sized, sum-sized, sized-wider}
-use Rattle.boore_atkinson.specs.declared.rock.Slant.{Slant}
+use Rattle.boore_atkinson.specs.declared.rock.EffectiveDistance.{EffectiveDistance}
 use Rattle.boore_atkinson.specs.declared.rock.Exact.{Exact}
 use Rattle.boore_atkinson.specs.declared.table.DistanceRow.{DistanceRow}
 use Rattle.boore_atkinson.specs.declared.table.MagnitudeRow.{MagnitudeRow}
 use Rattle.boore_atkinson.specs.Tables.{rowAt, pga}
-use Rattle.boore_atkinson.specs.Rock.{X}
+use Rattle.boore_atkinson.specs.Rock.{sumOfSquares}
 use Rattle.boore_atkinson.specs.Rows.{distanceParts, magnitudeParts, DistanceLimits, MagnitudeLimits}
-use Rattle.boore_atkinson.specs.Evaluation.{kmOf, slantOf, spreadOf, fallOf, levelOf, magnitudeOf, rockOf, belowOf}
-use Rattle.boore_atkinson.specs.Sizes.{SlantSized, MagnitudeBounds, Small, MotionSized}
+use Rattle.boore_atkinson.specs.Evaluation.{kmOf, effectiveOf, spreadOf, fallOf, levelOf, magnitudeOf, rockOf, belowOf}
+use Rattle.boore_atkinson.specs.Sizes.{EffectiveSized, MagnitudeBounds, Small, MotionSized}
 use Rattle.boore_atkinson.proofs.Rows.{distance-limits, magnitude-limits}
 
 -- ---- R
@@ -33,16 +33,16 @@ pub record Squares (d h : ℕ) : Type 0 where
 pub squares : {d h : ℕ} → d ≤ 19_999 → 100 ≤ h → h ≤ 400 → Squares d h
 squares near shallow deep = record { distance = mul-le-mul near near; least = mul-le-mul shallow shallow; depth = mul-le-mul deep deep }
 
-pub slant-domain : {d h : ℕ} → Squares d h → LnDomain (X d h) 10_000
-slant-domain s = record { least = omega arith; order = omega (arith, s .least); small = omega (arith, s .distance, s .depth) }
+pub effective-domain : {d h : ℕ} → Squares d h → LnDomain (sumOfSquares d h) 10_000
+effective-domain s = record { least = omega arith; order = omega (arith, s .least); small = omega (arith, s .distance, s .depth) }
 
 km-sized : {k : ℕ} → k < 2 ^ 32 → Sized (kmOf k) 78 330_000_000_000
 unfolding kmOf
 km-sized h = record { order = omega arith; narrow = omega arith; small = omega arith }
 
-pub slant-sized : {d h : ℕ} → Squares d h → SlantSized (slantOf d h)
-unfolding slantOf
-slant-sized s = record { ln = ln-sized (slant-domain s); km = km-sized (rootOf-small (slant-domain s .small)) }
+pub effective-sized : {d h : ℕ} → Squares d h → EffectiveSized (effectiveOf d h)
+unfolding effectiveOf
+effective-sized s = record { ln = ln-sized (effective-domain s); km = km-sized (rootOf-small (effective-domain s .small)) }
 
 -- ---- the distance term
 
@@ -58,19 +58,19 @@ spread-bounds {r} {m} l high =
       most = omega (arith, mul-le-mul-left (r .2) away, l .spread-most);
     }
 
-module _ {r : DistanceRow} {m : ℕ} {s : Slant} (l : DistanceLimits r) (high : m ≤ 800) (z : SlantSized s) where
-  pub near-sized : Sized (multipleOf (spreadOf r m) (s .ln)) 2 8_820_000_001
+module _ {r : DistanceRow} {m : ℕ} {s : EffectiveDistance} (l : DistanceLimits r) (high : m ≤ 800) (z : EffectiveSized s) where
+  pub spreading-sized : Sized (multipleOf (spreadOf r m) (s .ln)) 2 8_820_000_001
   unfolding spreadOf
-  near-sized =
+  spreading-sized =
       let b = spread-bounds l high in
       multiple-sized (spreadOf r m) (z .ln) 1 8_820_000_000 (omega (arith, b .most)) (omega (arith, b .most))
 
-  pub far-sized : Sized (multipleOf (200 * r .3) (s .km)) 2 3_798_300_001
-  far-sized = multiple-sized (200 * r .3) (z .km) 1 3_798_300_000 (omega (arith, l .c3)) (omega (arith, l .c3))
+  pub anelastic-sized : Sized (multipleOf (200 * r .3) (s .km)) 2 3_798_300_001
+  anelastic-sized = multiple-sized (200 * r .3) (z .km) 1 3_798_300_000 (omega (arith, l .c3)) (omega (arith, l .c3))
 
   pub fall-sized : Sized (fallOf r m s) 4 12_700_000_000
   unfolding fallOf
-  fall-sized = sized-wider (sum-sized near-sized far-sized) (omega arith) (omega arith)
+  fall-sized = sized-wider (sum-sized spreading-sized anelastic-sized) (omega arith) (omega arith)
 
 -- ---- the magnitude term
 
@@ -107,15 +107,15 @@ module _ {r : MagnitudeRow} (l : MagnitudeLimits r) where
 
 -- ---- the motion on rock
 
-pub rock-sized : {r : DistanceRow} {q : MagnitudeRow} {m : ℕ} {s : Slant} (mechanism : ℕ) → DistanceLimits r →
-    MagnitudeLimits q → m ≤ 800 → SlantSized s → MotionSized (rockOf r q m s mechanism) 4 80_000_000_000
+pub rock-sized : {r : DistanceRow} {q : MagnitudeRow} {m : ℕ} {s : EffectiveDistance} (mechanism : ℕ) → DistanceLimits r →
+    MagnitudeLimits q → m ≤ 800 → EffectiveSized s → MotionSized (rockOf r q m s mechanism) 4 80_000_000_000
 unfolding rockOf
 rock-sized {r} {q} {m} {s} mechanism l k high z =
     let f = fall-sized l high z in
     let g = magnitude-small k mechanism high in
     record {
-      up = record { order = omega arith; narrow = omega arith; small = omega (arith, g .gain, l .c3) };
-      down = record { order = omega (arith, f .order); narrow = omega (arith, f .narrow); small = omega (arith, f .small, g .loss) };
+      gain = record { order = omega arith; narrow = omega arith; small = omega (arith, g .gain, l .c3) };
+      loss = record { order = omega (arith, f .order); narrow = omega (arith, f .narrow); small = omega (arith, f .small, g .loss) };
       together = omega (arith, f .narrow);
     }
 
@@ -153,9 +153,9 @@ pga-magnitude m mechanism = go (leb m 675) (levelOf pgaMagnitude mechanism) (pga
     go false e f = record { gain = omega (arith, f .gain); loss = f .loss }
 
 -- so −p is above zero
-pub pga-order : {r : DistanceRow} (m mechanism : ℕ) (s : Slant) → DistanceLimits r →
+pub pga-order : {r : DistanceRow} (m mechanism : ℕ) (s : EffectiveDistance) → DistanceLimits r →
     let a = rockOf r pgaMagnitude m s mechanism in
-    a .up .low ≤ a .down .low
+    a .gain .low ≤ a .loss .low
 unfolding rockOf
 pga-order m mechanism s l = let f = pga-magnitude m mechanism in omega (arith, f .gain, f .loss, l .c3)
 
@@ -163,7 +163,7 @@ pub below-sized : {m d : ℕ} (mechanism : ℕ) → m ≤ 800 → d ≤ 19_999 �
 unfolding belowOf
 below-sized {m} {d} mechanism high near =
     let l = distance-limits 0 (omega arith) .sizes in
-    let s = slant-sized (squares near (l .shallow) (l .deep)) in
+    let s = effective-sized (squares near (l .shallow) (l .deep)) in
     let a = rock-sized mechanism l (magnitude-limits 0 (omega arith) .sizes) high s in
-    let o = pga-order m mechanism (slantOf d (pga .distance .h)) l in
-    record { order = omega (arith, a .down .order); narrow = omega (arith, a .down .narrow, o); small = omega (arith, a .down .small) }
+    let o = pga-order m mechanism (effectiveOf d (pga .distance .h)) l in
+    record { order = omega (arith, a .loss .order); narrow = omega (arith, a .loss .narrow, o); small = omega (arith, a .loss .small) }

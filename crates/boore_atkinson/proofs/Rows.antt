@@ -1,35 +1,38 @@
--- Signs and sizes of the coefficients: one test over all rows of each table. And the rows are those of the periods.
-use mathlib.Core.Path.{_≡_, refl}
-use mathlib.Core.Bool.{Bool}
-use mathlib.Core.List.{List, [], _∷_, map}
+-- Signs and sizes of the coefficients: one test over all rows of each table. And the row for a period is the one that the
+-- paper prints for it.
+use mathlib.Core.Path.{_≡_}
+use mathlib.Core.Bool.{Bool, true, _&&_}
+use mathlib.Core.List.{List, [], _∷_}
 use Prim.Native.Nat.{ℕ, _+_, _*_, _<_}
 use native.Mathlib.Omega.{arith}
-use lib.Dec.{T}
+use lib.Dec.{T, eqb, eqb→eq}
 use lib.ListN.{length, getD}
-use Rattle.signed.proofs.Whole.{up, down}
-use Rattle.exact.proofs.Tests.{every, every-at, allLe, AllLe, all-le}
-use Rattle.scenario.specs.Refusal.{booreAtkinson}
+use Rattle.signed.specs.Whole.{up, down}
+use Rattle.exact.proofs.Tests.{and-left, and-right, every, every-at, allLe, AllLe, all-le}
+use Rattle.scenario.specs.Lists.{among}
+use Rattle.scenario.specs.Refusal.{booreAtkinson, booreAtkinsonRow}
+use Rattle.scenario.proofs.ListLaws.{all, all-at}
 use Rattle.boore_atkinson.specs.declared.table.SiteRow.{SiteRow}
 use Rattle.boore_atkinson.specs.declared.table.DistanceRow.{DistanceRow}
 use Rattle.boore_atkinson.specs.declared.table.MagnitudeRow.{MagnitudeRow}
-use Rattle.boore_atkinson.specs.Tables.{Site, Distance, Magnitude, Total, table3, table6, table7, table8, rowAt, totalAt}
+use Rattle.boore_atkinson.specs.Tables.{SiteAmplification, DistanceScaling, MagnitudeScaling, Total, table3, table6, table7, table8, rowAt, totalAt, rowFor, totalFor}
 use Rattle.boore_atkinson.specs.Rows.{siteParts, distanceParts, magnitudeParts, SiteSigns, DistanceSigns, MagnitudeSigns, TotalLimits}
 
 -- the limits, each as two numbers in order
 
-abbrev siteLimits : Site → List (ℕ × ℕ)
+abbrev siteLimits : SiteAmplification → List (ℕ × ℕ)
 siteLimits r =
     let p : SiteRow = siteParts r in
     (p .0, 750) ∷ (p .1, 640) ∷ (p .2, 19) ∷ (10 * p .2, p .1) ∷ (p .1, 530 + 10 * p .2) ∷
     (up (r .blin), 0) ∷ (up (r .b1), 0) ∷ (up (r .b2), 0) ∷ []
 
-abbrev distanceLimits : Distance → List (ℕ × ℕ)
+abbrev distanceLimits : DistanceScaling → List (ℕ × ℕ)
 distanceLimits r =
     let p : DistanceRow = distanceParts r in
     (p .1 * 350, 100 * p .0) ∷ (100 * p .0 + p .2 * 350, 8_400_000) ∷ (p .3, 1_151) ∷ (100, p .4) ∷ (p .4, 400) ∷
     (up (r .c1), 0) ∷ (up (r .c3), 0) ∷ []
 
-abbrev magnitudeLimits : Magnitude → List (ℕ × ℕ)
+abbrev magnitudeLimits : MagnitudeScaling → List (ℕ × ℕ)
 magnitudeLimits r =
     let p : MagnitudeRow = magnitudeParts r in
     (p .0, 300_000) ∷ (p .1, 300_000) ∷ (p .2, 300_000) ∷ (p .3, 300_000) ∷ (p .4, 300_000) ∷ (p .5, 300_000) ∷
@@ -39,7 +42,7 @@ magnitudeLimits r =
 abbrev totalLimits : Total → List (ℕ × ℕ)
 totalLimits r = (r .σTU, 1_000) ∷ (r .σTM, 1_000) ∷ []
 
-site-signs : (r : Site) → AllLe (siteLimits r) → SiteSigns r
+site-signs : (r : SiteAmplification) → AllLe (siteLimits r) → SiteSigns r
 site-signs r h = record {
   sizes = record { blin = omega arith; b1 = omega arith; b2 = omega arith; order = omega arith; apart = omega arith };
   blin-below = omega arith;
@@ -47,7 +50,7 @@ site-signs r h = record {
   b2-below = omega arith;
 }
 
-distance-signs : (r : Distance) → AllLe (distanceLimits r) → DistanceSigns r
+distance-signs : (r : DistanceScaling) → AllLe (distanceLimits r) → DistanceSigns r
 distance-signs r h = record {
   sizes = record {
     spread-least = omega arith;
@@ -60,7 +63,7 @@ distance-signs r h = record {
   c3-below = omega arith;
 }
 
-magnitude-signs : (r : Magnitude) → AllLe (magnitudeLimits r) → MagnitudeSigns r
+magnitude-signs : (r : MagnitudeScaling) → AllLe (magnitudeLimits r) → MagnitudeSigns r
 magnitude-signs r h = record {
   sizes = record {
     e1-gain = omega arith;
@@ -128,16 +131,31 @@ pub total-limits : (k : ℕ) → k < 22 → TotalLimits (totalAt k)
 unfolding totalAt
 total-limits k h = total-within _ (row-within totalLimits _ table8 table8-within k h)
 
--- ---- the printed periods are those of the scenario's rows, in their order
+-- ---- the rows for a period are those that the paper prints for it
 
-pub periods-3 : map (λ (r : Site). r .period) table3 ≡ (0 ∷ booreAtkinson .periods)
-periods-3 = refl
+pub record Printed (period : ℕ) : Type 0 where
+  pub site : rowFor period .site .period ≡ period
+  pub distance : rowFor period .distance .period ≡ period
+  pub magnitude : rowFor period .magnitude .period ≡ period
+  pub total : totalFor period .period ≡ period
 
-pub periods-6 : map (λ (r : Distance). r .period) table6 ≡ (0 ∷ booreAtkinson .periods)
-periods-6 = refl
+abbrev is-printed : ℕ → Bool
+is-printed T =
+    (eqb (rowFor T .site .period) T && eqb (rowFor T .distance .period) T) &&
+    (eqb (rowFor T .magnitude .period) T && eqb (totalFor T .period) T)
 
-pub periods-7 : map (λ (r : Magnitude). r .period) table7 ≡ (0 ∷ booreAtkinson .periods)
-periods-7 = refl
+all-printed : T (all is-printed (0 ∷ booreAtkinson .periods))
+unfolding rowFor totalFor rowAt totalAt booreAtkinsonRow
+all-printed = tt
 
-pub periods-8 : map (λ (r : Total). r .period) table8 ≡ (0 ∷ booreAtkinson .periods)
-periods-8 = refl
+pub row-printed : (period : ℕ) → among (0 ∷ booreAtkinson .periods) period ≡ true → Printed period
+row-printed T e =
+    let t = all-at is-printed (0 ∷ booreAtkinson .periods) T all-printed e in
+    let p = and-left (eqb (rowFor T .site .period) T && eqb (rowFor T .distance .period) T) _ t in
+    let q = and-right (eqb (rowFor T .site .period) T && eqb (rowFor T .distance .period) T) _ t in
+    record {
+      site = eqb→eq _ T (and-left (eqb (rowFor T .site .period) T) _ p);
+      distance = eqb→eq _ T (and-right (eqb (rowFor T .site .period) T) _ p);
+      magnitude = eqb→eq _ T (and-left (eqb (rowFor T .magnitude .period) T) _ q);
+      total = eqb→eq _ T (and-right (eqb (rowFor T .magnitude .period) T) _ q);
+    }

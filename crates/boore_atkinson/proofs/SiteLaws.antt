@@ -6,7 +6,7 @@ use native.Mathlib.Omega.{arith}
 use borrow.Author.Tests.{leb-true, leb-false, ltb-true, ltb-false}
 use lib.Dec.{leb, ltb}
 use lib.IntN.{pos}
-use Rattle.signed.proofs.Whole.{up, down}
+use Rattle.signed.specs.Whole.{up, down}
 use Rattle.exact.specs.Fraction.{Fraction, _over_, zeroQ, _+q_, negQ, _-q_, _*q_, _/q_, recipQ}
 use Rattle.exact.specs.Formula.{Formula, stated, ln, _⊕_, _⊗_, _⊘_}
 use Rattle.exact.proofs.FractionLaws.{Is, zero-Is, over-below, add-Is, neg-Is}
@@ -18,7 +18,7 @@ use Rattle.logarithm.specs.Evaluation.{lnOf}
 use Rattle.logarithm.proofs.Enclosure.{Known}
 use Rattle.outward.specs.Evaluation.{multipleOf, productOf, sumOf}
 use Rattle.outward.proofs.Laws.{Held, HeldBelow, multiple-held, minus-held, minus-below, product-held}
-use Rattle.boore_atkinson.specs.Tables.{Site, v1, v2, vref}
+use Rattle.boore_atkinson.specs.Tables.{SiteAmplification, v1, v2, vref}
 use Rattle.boore_atkinson.specs.SiteTerm.{b1Of, b2Of, linearPart, bnl}
 use Rattle.boore_atkinson.specs.Rows.{siteParts, SiteSigns}
 use Rattle.boore_atkinson.specs.Constants.{overSlow, overFast}
@@ -29,7 +29,7 @@ use Rattle.boore_atkinson.proofs.RockLaws.{Moves}
 pub ln-domain : {a b : ℕ} → 1 ≤ b → b ≤ a → a ≤ 20_000 → LnDomain a b
 ln-domain p q r = record { least = p; order = q; small = omega arith }
 
-module _ (s : Site) (l : SiteSigns s) {σ : Points} (known : Known σ) {v : ℕ} (slow : 1_800 ≤ v) (fast : v ≤ 13_000) where
+module _ (s : SiteAmplification) (l : SiteSigns s) {σ : Points} (known : Known σ) {v : ℕ} (slow : 1_800 ≤ v) (fast : v ≤ 13_000) where
   at-ends : {a b : ℕ} → LnDomain a b → Held (σ .lnAt a b) (lnOf a b)
   at-ends d = lies-natural _ _ (known .ln-within d)
 
@@ -44,8 +44,8 @@ module _ (s : Site) (l : SiteSigns s) {σ : Points} (known : Known σ) {v : ℕ}
     where
       go : (c : Bool) → ltb v 7_600 ≡ c →
           Moves (s .blin over 1_000 *q σ .lnAt v 7_600)
-          (cond c record { up = multipleOf (20_000 * down (s .blin)) (lnOf 7_600 v); down = exactly 0 }
-          record { up = exactly 0; down = multipleOf (20_000 * down (s .blin)) (lnOf v 7_600) })
+          (cond c record { gain = multipleOf (20_000 * down (s .blin)) (lnOf 7_600 v); loss = exactly 0 }
+          record { gain = exactly 0; loss = multipleOf (20_000 * down (s .blin)) (lnOf v 7_600) })
       go true c =
           let h = ltb-true v 7_600 c in
           rw (known .ln-negated h)

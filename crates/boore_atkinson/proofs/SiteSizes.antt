@@ -13,7 +13,7 @@ use Rattle.outward.specs.Evaluation.{Sized, multipleOf, productOf, sumOf, spanO
 use Rattle.outward.proofs.Laws.{sized-wider, ln-sized, ln-sized-by, multiple-sized, product-sized, From, product-from, sum-from, sum-sized, span-sized}
 use Rattle.boore_atkinson.specs.declared.table.SiteRow.{SiteRow}
 use Rattle.boore_atkinson.specs.Rows.{SiteLimits}
-use Rattle.boore_atkinson.specs.Constants.{lnLow, lnA1, lnA2, lnTen, overSlow, overFast, cOver, dOver}
+use Rattle.boore_atkinson.specs.Constants.{minusLnLow, minusLnA1, minusLnA2, lnTen, overSlow, overFast, cOver, dOver}
 use Rattle.boore_atkinson.specs.Evaluation.{exactly, linearOf, slowSlopeOf, fastSlopeOf, slopeOf, zOf, cubicOf, straightOf, branchOf, curveOf, nonlinearOf}
 use Rattle.boore_atkinson.specs.Sizes.{MotionSized}
 use Rattle.boore_atkinson.proofs.SiteLaws.{ln-domain}
@@ -44,16 +44,16 @@ module _ {s : SiteRow} (l : SiteLimits s) {v : ℕ} (slow : 1_800 ≤ v) where
     where
       go : (c : Bool) → ltb v 7_600 ≡ c →
           MotionSized
-          (cond c record { up = multipleOf (20_000 * s .0) (lnOf 7_600 v); down = exactly 0 }
-          record { up = exactly 0; down = multipleOf (20_000 * s .0) (lnOf v 7_600) }) 3 16_000_000_000
+          (cond c record { gain = multipleOf (20_000 * s .0) (lnOf 7_600 v); loss = exactly 0 }
+          record { gain = exactly 0; loss = multipleOf (20_000 * s .0) (lnOf v 7_600) }) 3 16_000_000_000
       go true c =
           let h = ltb-true v 7_600 c in
           let t = linear-term 7_600 v (ln-domain (omega arith) (omega arith) (omega arith)) in
-          record { up = t; down = none; together = omega (arith, t .narrow) }
+          record { gain = t; loss = none; together = omega (arith, t .narrow) }
       go false c =
           let h = ltb-false v 7_600 c in
           let t = linear-term v 7_600 (ln-domain (omega arith) h (omega arith)) in
-          record { up = none; down = t; together = omega (arith, t .narrow) }
+          record { gain = none; loss = t; together = omega (arith, t .narrow) }
 
   -- ---- the slope
 
@@ -175,15 +175,15 @@ module _ {b : Ends} (order : b .low ≤ b .high) where
       span-sized p q 0 2_820_000_000 2_820_000_000 (record { least = omega arith }) (record { least = omega arith }) (omega arith) (omega arith) (omega arith)
 
   pub upper-sized : b .low < 3_506_557_898 →
-      Sized (branchOf b lnA2 (cubicOf (zOf b)) (straightOf b)) 2_820_000_000 2_820_000_000
+      Sized (branchOf b minusLnA2 (cubicOf (zOf b)) (straightOf b)) 2_820_000_000 2_820_000_000
   upper-sized h =
-      branch-cases (λ e. Sized e 2_820_000_000 2_820_000_000) b lnA2 (cubicOf (zOf b)) (straightOf b)
+      branch-cases (λ e. Sized e 2_820_000_000 2_820_000_000) b minusLnA2 (cubicOf (zOf b)) (straightOf b)
       (λ p q. transition-sized h p) (λ p. straight-sized (omega arith)) (λ p q. any-span (transition-sized h p) (straight-sized q))
 
   pub curve-sized : Sized (curveOf b) 2_820_000_000 2_820_000_000
   unfolding curveOf
   curve-sized =
-      branch-cases (λ e. Sized e 2_820_000_000 2_820_000_000) b lnA1 (exactly 0) (branchOf b lnA2 (cubicOf (zOf b)) (straightOf b))
+      branch-cases (λ e. Sized e 2_820_000_000 2_820_000_000) b minusLnA1 (exactly 0) (branchOf b minusLnA2 (cubicOf (zOf b)) (straightOf b))
       (λ p q. none) (λ p. upper-sized (omega arith)) (λ p q. any-span none (upper-sized q))
     where
       none : Sized (exactly 0) 2_820_000_000 2_820_000_000
@@ -242,9 +242,9 @@ module _ {b : Ends} {most : ℕ} (n : Sized b 4 most) where
       span-sized (transition-narrow (omega arith) h) (straight-near h k) 405_465_099 405_465_120 21 (cubic-from (z-from k)) straight-from
       (omega arith) (omega arith) (omega arith)
 
-  upper-narrow : b .low < 3_506_557_898 → Sized (branchOf b lnA2 (cubicOf (zOf b)) (straightOf b)) 21 2_820_000_000
+  upper-narrow : b .low < 3_506_557_898 → Sized (branchOf b minusLnA2 (cubicOf (zOf b)) (straightOf b)) 21 2_820_000_000
   upper-narrow h =
-      branch-cases (λ e. Sized e 21 2_820_000_000) b lnA2 (cubicOf (zOf b)) (straightOf b)
+      branch-cases (λ e. Sized e 21 2_820_000_000) b minusLnA2 (cubicOf (zOf b)) (straightOf b)
       (λ p q. sized-wider (transition-narrow h p) (omega arith) (omega arith))
       (λ p. sized-wider (straight-narrow (omega (arith, n .order))) (omega arith) (omega arith))
       (λ p q. sized-wider (meeting p q) (omega arith) (omega arith))
@@ -255,22 +255,22 @@ module _ {b : Ends} {most : ℕ} (n : Sized b 4 most) where
   z-tiny h k = let o = n .order in let w = n .narrow in record { order = omega arith; narrow = omega arith; small = omega arith }
 
   start : 3_506_557_897 ≤ b .high → b .low < 3_506_557_898 →
-      Sized (spanOf (exactly 0) (branchOf b lnA2 (cubicOf (zOf b)) (straightOf b))) 4 4
+      Sized (spanOf (exactly 0) (branchOf b minusLnA2 (cubicOf (zOf b)) (straightOf b))) 4 4
   start h k =
-      branch-cases (λ e. Sized (spanOf (exactly 0) e) 4 4) b lnA2 (cubicOf (zOf b)) (straightOf b)
+      branch-cases (λ e. Sized (spanOf (exactly 0) e) 4 4) b minusLnA2 (cubicOf (zOf b)) (straightOf b)
       (λ p q. span-sized (exactly-sized 0 0 (omega arith)) (cubic-tiny (z-tiny h k)) 0 4 4 (record { least = omega arith }) (record { least = omega arith }) (omega arith) (omega arith) (omega arith))
       (λ p. absurd (omega arith)) (λ p q. absurd (omega (arith, n .narrow)))
 
   pub curve-narrow : Sized (curveOf b) 21 2_820_000_000
   unfolding curveOf
   curve-narrow =
-      branch-cases (λ e. Sized e 21 2_820_000_000) b lnA1 (exactly 0) (branchOf b lnA2 (cubicOf (zOf b)) (straightOf b))
+      branch-cases (λ e. Sized e 21 2_820_000_000) b minusLnA1 (exactly 0) (branchOf b minusLnA2 (cubicOf (zOf b)) (straightOf b))
       (λ p q. sized-wider (exactly-sized 0 0 (omega arith)) (omega arith) (omega arith)) (λ p. upper-narrow (omega (arith, n .order)))
       (λ p q. sized-wider (start p q) (omega arith) (omega arith))
 
 -- ---- the nonlinear part
 
-low-sized : Sized lnLow 1 510_825_624
+low-sized : Sized minusLnLow 1 510_825_624
 low-sized = record { order = omega arith; narrow = omega arith; small = omega arith }
 
 -- the slope times a curve that is at most w wide, k + 1 wide
@@ -279,12 +279,12 @@ nonlinear-by : {s : SiteRow} {v : ℕ} (b : Ends) → SiteLimits s → 1_800 ≤
 unfolding nonlinearOf
 nonlinear-by b l slow w k c h =
     let n = slope-sized l slow in
-    let up = product-sized n low-sized 4 459_743_062 (omega arith) (omega arith) in
-    let down = product-sized n c k 2_538_000_000 h (omega arith) in
+    let gain = product-sized n low-sized 4 459_743_062 (omega arith) (omega arith) in
+    let loss = product-sized n c k 2_538_000_000 h (omega arith) in
     record {
-      up = sized-wider up (omega arith) (omega arith);
-      down = sized-wider down (omega arith) (omega arith);
-      together = omega (arith, up .narrow, down .narrow);
+      gain = sized-wider gain (omega arith) (omega arith);
+      loss = sized-wider loss (omega arith) (omega arith);
+      together = omega (arith, gain .narrow, loss .narrow);
     }
 
 pub nonlinear-sized : {s : SiteRow} {v : ℕ} (b : Ends) → SiteLimits s → 1_800 ≤ v → b .low ≤ b .high →

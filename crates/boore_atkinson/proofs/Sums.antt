@@ -10,24 +10,24 @@ use Rattle.logarithm.specs.declared.Ends.{Ends}
 use Rattle.logarithm.specs.Evaluation.{lnOf, rootOf}
 use Rattle.outward.specs.Evaluation.{multipleOf, productOf, sumOf, spanOf}
 use Rattle.boore_atkinson.specs.declared.Motion.{Motion}
-use Rattle.boore_atkinson.specs.declared.rock.Slant.{Slant}
+use Rattle.boore_atkinson.specs.declared.rock.EffectiveDistance.{EffectiveDistance}
 use Rattle.boore_atkinson.specs.declared.rock.Exact.{Exact}
 use Rattle.boore_atkinson.specs.declared.table.SiteRow.{SiteRow}
 use Rattle.boore_atkinson.specs.declared.table.DistanceRow.{DistanceRow}
 use Rattle.boore_atkinson.specs.declared.table.MagnitudeRow.{MagnitudeRow}
 use Rattle.boore_atkinson.specs.declared.table.TotalRow.{TotalRow}
 use Rattle.boore_atkinson.specs.Tables.{Total, Row, pga}
-use Rattle.boore_atkinson.specs.Rock.{X}
+use Rattle.boore_atkinson.specs.Rock.{sumOfSquares}
 use Rattle.boore_atkinson.specs.Rows.{siteParts, distanceParts, magnitudeParts, totalParts}
-use Rattle.boore_atkinson.specs.Constants.{lnLow, lnA1, lnA2, overSlow, overFast, cOver, dOver}
-use Rattle.boore_atkinson.specs.Evaluation.{exactly, kmOf, slantOf, spreadOf, fallOf, levelOf, magnitudeOf, rockOf, belowOf, linearOf, slowSlopeOf, fastSlopeOf, slopeOf, zOf, cubicOf, straightOf, branchOf, curveOf, nonlinearOf, endsOf, plusOf, medianOf, sigmaOf}
+use Rattle.boore_atkinson.specs.Constants.{minusLnLow, minusLnA1, minusLnA2, overSlow, overFast, cOver, dOver}
+use Rattle.boore_atkinson.specs.Evaluation.{exactly, kmOf, effectiveOf, spreadOf, fallOf, levelOf, magnitudeOf, rockOf, belowOf, linearOf, slowSlopeOf, fastSlopeOf, slopeOf, zOf, cubicOf, straightOf, branchOf, curveOf, nonlinearOf, endsOf, plusOf, medianOf, sigmaOf}
 
-pub slant-is : (d h : ℕ) {k : ℕ} {e : Ends} → k ≡ rootOf (X d h) → e ≡ lnOf (X d h) 10_000 →
-    record { ln = e; km = record { low = k * 78_125 / 1_024; high = (k + 1) * 78_125 / 1_024 + 1 } } ≡ slantOf d h
-unfolding slantOf kmOf
-slant-is d h root ln = rw (root, ln) refl
+pub effective-is : (d h : ℕ) {k : ℕ} {e : Ends} → k ≡ rootOf (sumOfSquares d h) → e ≡ lnOf (sumOfSquares d h) 10_000 →
+    record { ln = e; km = record { low = k * 78_125 / 1_024; high = (k + 1) * 78_125 / 1_024 + 1 } } ≡ effectiveOf d h
+unfolding effectiveOf kmOf
+effective-is d h root ln = rw (root, ln) refl
 
-pub fall-is : (r : DistanceRow) (m : ℕ) (s : Slant) {n : ℕ} {a b f : Ends} → n ≡ spreadOf r m → a ≡ multipleOf n (s .ln) →
+pub fall-is : (r : DistanceRow) (m : ℕ) (s : EffectiveDistance) {n : ℕ} {a b f : Ends} → n ≡ spreadOf r m → a ≡ multipleOf n (s .ln) →
     b ≡ multipleOf (200 * r .3) (s .km) → f ≡ sumOf a b → f ≡ fallOf r m s
 unfolding fallOf
 fall-is r m s n a b f = rw (f, a, b, n) refl
@@ -43,26 +43,26 @@ module _ (r : MagnitudeRow) (m mechanism : ℕ) {e : Exact} (level : e ≡ level
   unfolding magnitudeOf
   over-is h = rw (lt-leb m (r .11) h, level) refl
 
-pub rock-is : (r : DistanceRow) (q : MagnitudeRow) (m : ℕ) (s : Slant) (mechanism : ℕ) {f : Ends} {g : Exact} →
+pub rock-is : (r : DistanceRow) (q : MagnitudeRow) (m : ℕ) (s : EffectiveDistance) (mechanism : ℕ) {f : Ends} {g : Exact} →
     f ≡ fallOf r m s → g ≡ magnitudeOf q m mechanism →
-    record { up = exactly (g .gain + 10_000 * r .3); down = record { low = g .loss + f .low; high = g .loss + f .high } } ≡ rockOf r q m s mechanism
+    record { gain = exactly (g .gain + 10_000 * r .3); loss = record { low = g .loss + f .low; high = g .loss + f .high } } ≡ rockOf r q m s mechanism
 unfolding rockOf
 rock-is r q m s mechanism f g = rw (f, g) refl
 
-pub below-is : (m d mechanism : ℕ) {r : DistanceRow} {q : MagnitudeRow} {s : Slant} {a : Motion} →
-    r ≡ distanceParts (pga .distance) → q ≡ magnitudeParts (pga .magnitude) → s ≡ slantOf d (r .4) → a ≡ rockOf r q m s mechanism →
-    record { low = a .down .low - a .up .low; high = a .down .high - a .up .low } ≡ belowOf m d mechanism
+pub below-is : (m d mechanism : ℕ) {r : DistanceRow} {q : MagnitudeRow} {s : EffectiveDistance} {a : Motion} →
+    r ≡ distanceParts (pga .distance) → q ≡ magnitudeParts (pga .magnitude) → s ≡ effectiveOf d (r .4) → a ≡ rockOf r q m s mechanism →
+    record { low = a .loss .low - a .gain .low; high = a .loss .high - a .gain .low } ≡ belowOf m d mechanism
 unfolding belowOf
 below-is m d mechanism r q s a = rw (a, s, r, q) refl
 
 -- ---- the site term
 
 module _ (s : SiteRow) (v : ℕ) {e n : Ends} (none : n ≡ exactly 0) where
-  pub linear-slow : v < 7_600 → e ≡ multipleOf (20_000 * s .0) (lnOf 7_600 v) → record { up = e; down = n } ≡ linearOf s v
+  pub linear-slow : v < 7_600 → e ≡ multipleOf (20_000 * s .0) (lnOf 7_600 v) → record { gain = e; loss = n } ≡ linearOf s v
   unfolding linearOf
   linear-slow h term = rw (lt-ltb v 7_600 h, term, none) refl
 
-  pub linear-fast : 7_600 ≤ v → e ≡ multipleOf (20_000 * s .0) (lnOf v 7_600) → record { up = n; down = e } ≡ linearOf s v
+  pub linear-fast : 7_600 ≤ v → e ≡ multipleOf (20_000 * s .0) (lnOf v 7_600) → record { gain = n; loss = e } ≡ linearOf s v
   unfolding linearOf
   linear-fast h term = rw (le-ltb v 7_600 h, term, none) refl
 
@@ -93,11 +93,11 @@ module _ (s : SiteRow) (v : ℕ) {n : Ends} where
   unfolding slopeOf
   slope-from-760 f g h e = rw (lt-leb v 1_800 f, lt-leb v 3_000 g, le-ltb v 7_600 h) e
 
-pub height-is : (b : Ends) {low high : ℕ} → low ≡ min (b .high) (lnA1 .low) → high ≡ max (b .low) (lnA2 .low) →
-    record { low = lnA1 .low - low; high = lnA1 .high - high } ≡ zOf b
+pub z-is : (b : Ends) {low high : ℕ} → low ≡ min (b .high) (minusLnA1 .low) → high ≡ max (b .low) (minusLnA2 .low) →
+    record { low = minusLnA1 .low - low; high = minusLnA1 .high - high } ≡ zOf b
 unfolding zOf
-height-is b {low} el eh =
-    let same : lnA1 .low - low ≡ lnA1 .low - b .high = omega (arith, el) in
+z-is b {low} el eh =
+    let same : minusLnA1 .low - low ≡ minusLnA1 .low - b .high = omega (arith, el) in
     rw (same, eh) refl
 
 pub cubic-is : (z : Ends) {square a cube b q : Ends} → square ≡ productOf z z → a ≡ productOf cOver square → cube ≡ productOf square z →
@@ -118,20 +118,20 @@ module _ (b t A B : Ends) {r : Ends} where
   unfolding branchOf
   branch-both-is h k ex ey e = rw (le-leb (t .low) (b .high) h, lt-ltb (b .low) (t .high) k, ← ex, ← ey) e
 
-pub nonlinear-is : (s : SiteRow) (v : ℕ) (b : Ends) {n q up down : Ends} → n ≡ slopeOf s v → q ≡ curveOf b → up ≡ productOf n lnLow →
-    down ≡ productOf n q → record { up = up; down = down } ≡ nonlinearOf s v b
+pub nonlinear-is : (s : SiteRow) (v : ℕ) (b : Ends) {n q gain loss : Ends} → n ≡ slopeOf s v → q ≡ curveOf b →
+    gain ≡ productOf n minusLnLow → loss ≡ productOf n q → record { gain = gain; loss = loss } ≡ nonlinearOf s v b
 unfolding nonlinearOf
-nonlinear-is s v b n q up down = rw (up, down, n, q) refl
+nonlinear-is s v b n q gain loss = rw (gain, loss, n, q) refl
 
 -- ---- the sum
 
-pub median-is : (r : Row) (m d v mechanism : ℕ) {c : DistanceRow} {q : MagnitudeRow} {s : SiteRow} {slant : Slant} {b : Ends}
+pub median-is : (r : Row) (m d v mechanism : ℕ) {c : DistanceRow} {q : MagnitudeRow} {s : SiteRow} {effective : EffectiveDistance} {b : Ends}
     {rock linear nonlinear : Motion} → c ≡ distanceParts (r .distance) → q ≡ magnitudeParts (r .magnitude) →
-    s ≡ siteParts (r .site) → slant ≡ slantOf d (c .4) → rock ≡ rockOf c q m slant mechanism → linear ≡ linearOf s v →
+    s ≡ siteParts (r .site) → effective ≡ effectiveOf d (c .4) → rock ≡ rockOf c q m effective mechanism → linear ≡ linearOf s v →
     b ≡ belowOf m d mechanism → nonlinear ≡ nonlinearOf s v b →
     endsOf (plusOf (plusOf rock linear) nonlinear) ≡ medianOf r m d v mechanism
 unfolding medianOf
-median-is r m d v mechanism c q s slant rock linear b nonlinear = rw (rock, linear, nonlinear, slant, b, c, q, s) refl
+median-is r m d v mechanism c q s effective rock linear b nonlinear = rw (rock, linear, nonlinear, effective, b, c, q, s) refl
 
 pub sigma-is : (t : Total) (mechanism : ℕ) {r : TotalRow} {z : ℕ} → r ≡ totalParts t → z ≡ cond (eqb mechanism 9) (r .0) (r .1) →
     betweenOf (1_000_000 * z) 0 (1_000_000 * z) 0 ≡ sigmaOf t mechanism

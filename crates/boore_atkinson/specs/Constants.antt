@@ -7,14 +7,14 @@ abbrev pair : ℕ → ℕ → Ends
 pair low high = record { low = low; high = high }
 
 -- ln(0.1/0.06), ln(1/0.03), ln(1/0.09), ln 10
-abbrev pub lnLow : Ends
-lnLow = pair 510_825_623 510_825_624
+abbrev pub minusLnLow : Ends
+minusLnLow = pair 510_825_623 510_825_624
 
-abbrev pub lnA1 : Ends
-lnA1 = pair 3_506_557_897 3_506_557_898
+abbrev pub minusLnA1 : Ends
+minusLnA1 = pair 3_506_557_897 3_506_557_898
 
-abbrev pub lnA2 : Ends
-lnA2 = pair 2_407_945_608 2_407_945_609
+abbrev pub minusLnA2 : Ends
+minusLnA2 = pair 2_407_945_608 2_407_945_609
 
 abbrev pub lnTen : Ends
 lnTen = pair 2_302_585_092 2_302_585_094

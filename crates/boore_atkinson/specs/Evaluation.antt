@@ -9,15 +9,15 @@ use Rattle.logarithm.specs.declared.Ends.{Ends}
 use Rattle.logarithm.specs.Evaluation.{lnOf, rootOf}
 use Rattle.outward.specs.Evaluation.{multipleOf, productOf, sumOf, spanOf}
 use Rattle.boore_atkinson.specs.declared.Motion.{Motion}
-use Rattle.boore_atkinson.specs.declared.rock.Slant.{Slant}
+use Rattle.boore_atkinson.specs.declared.rock.EffectiveDistance.{EffectiveDistance}
 use Rattle.boore_atkinson.specs.declared.rock.Exact.{Exact}
 use Rattle.boore_atkinson.specs.declared.table.SiteRow.{SiteRow}
 use Rattle.boore_atkinson.specs.declared.table.DistanceRow.{DistanceRow}
 use Rattle.boore_atkinson.specs.declared.table.MagnitudeRow.{MagnitudeRow}
-use Rattle.boore_atkinson.specs.Tables.{Total, Site, Row, pga}
-use Rattle.boore_atkinson.specs.Rock.{X}
+use Rattle.boore_atkinson.specs.Tables.{Total, SiteAmplification, Row, pga}
+use Rattle.boore_atkinson.specs.Rock.{sumOfSquares}
 use Rattle.boore_atkinson.specs.Rows.{siteParts, distanceParts, magnitudeParts}
-use Rattle.boore_atkinson.specs.Constants.{lnLow, lnA1, lnA2, lnTen, overSlow, overFast, cOver, dOver}
+use Rattle.boore_atkinson.specs.Constants.{minusLnLow, minusLnA1, minusLnA2, lnTen, overSlow, overFast, cOver, dOver}
 
 -- equal ends
 abbrev pub exactly : ℕ → Ends
@@ -30,15 +30,15 @@ unfoldable pub kmOf : ℕ → Ends
 kmOf k = record { low = k * 78_125 / 1_024; high = (k + 1) * 78_125 / 1_024 + 1 }
 
 -- ln R² and R
-unfoldable pub slantOf : ℕ → ℕ → Slant
-slantOf d h = record { ln = lnOf (X d h) 10_000; km = kmOf (rootOf (X d h)) }
+unfoldable pub effectiveOf : ℕ → ℕ → EffectiveDistance
+effectiveOf d h = record { ln = lnOf (sumOfSquares d h) 10_000; km = kmOf (rootOf (sumOfSquares d h)) }
 
 -- −(c1 + c2 (M − Mref)), in 10^-7
 unfoldable pub spreadOf : DistanceRow → ℕ → ℕ
 spreadOf r m = 100 * r .0 + r .2 * (m - 450) - r .1 * (m - 450)
 
 -- −(c1 + c2 (M − Mref)) ln R − c3 R
-unfoldable pub fallOf : DistanceRow → ℕ → Slant → Ends
+unfoldable pub fallOf : DistanceRow → ℕ → EffectiveDistance → Ends
 fallOf r m s = sumOf (multipleOf (spreadOf r m) (s .ln)) (multipleOf (200 * r .3) (s .km))
 
 -- e
@@ -57,28 +57,28 @@ magnitudeOf r m mechanism =
     record { gain = e .gain; loss = e .loss + 100 * (r .8 * (r .11 - m)) + r .9 * ((r .11 - m) * (r .11 - m)) }
     record { gain = e .gain + 100 * (r .10 * (m - r .11)); loss = e .loss }
 
-unfoldable pub rockOf : DistanceRow → MagnitudeRow → ℕ → Slant → ℕ → Motion
+unfoldable pub rockOf : DistanceRow → MagnitudeRow → ℕ → EffectiveDistance → ℕ → Motion
 rockOf r q m s mechanism =
     let f : Ends = fallOf r m s in
     let g : Exact = magnitudeOf q m mechanism in
     record {
-      up = exactly (g .gain + 10_000 * r .3);
-      down = record { low = g .loss + f .low; high = g .loss + f .high };
+      gain = exactly (g .gain + 10_000 * r .3);
+      loss = record { low = g .loss + f .low; high = g .loss + f .high };
     }
 
 -- −p
 unfoldable pub belowOf : ℕ → ℕ → ℕ → Ends
 belowOf m d mechanism =
-    let a : Motion = rockOf (distanceParts (pga .distance)) (magnitudeParts (pga .magnitude)) m (slantOf d (pga .distance .h)) mechanism in
-    record { low = a .down .low - a .up .low; high = a .down .high - a .up .low }
+    let a : Motion = rockOf (distanceParts (pga .distance)) (magnitudeParts (pga .magnitude)) m (effectiveOf d (pga .distance .h)) mechanism in
+    record { low = a .loss .low - a .gain .low; high = a .loss .high - a .gain .low }
 
 -- ---- the site term
 
 unfoldable pub linearOf : SiteRow → ℕ → Motion
 linearOf s v =
     cond (ltb v 7_600)
-    record { up = multipleOf (20_000 * s .0) (lnOf 7_600 v); down = exactly 0 }
-    record { up = exactly 0; down = multipleOf (20_000 * s .0) (lnOf v 7_600) }
+    record { gain = multipleOf (20_000 * s .0) (lnOf 7_600 v); loss = exactly 0 }
+    record { gain = exactly 0; loss = multipleOf (20_000 * s .0) (lnOf v 7_600) }
 
 -- −bnl from 180 to 300 m/s, and from 300 to 760
 unfoldable pub slowSlopeOf : SiteRow → ℕ → Ends
@@ -96,7 +96,7 @@ slopeOf s v =
 
 -- z = p − ln 0.03 in the middle branch, where p is above ln 0.03 and up to ln 0.09
 unfoldable pub zOf : Ends → Ends
-zOf b = record { low = lnA1 .low - b .high; high = lnA1 .high - max (b .low) (lnA2 .low) }
+zOf b = record { low = minusLnA1 .low - b .high; high = minusLnA1 .high - max (b .low) (minusLnA2 .low) }
 
 -- c z² + d z³ over the slope
 unfoldable pub cubicOf : Ends → Ends
@@ -107,8 +107,8 @@ cubicOf z =
 -- p − ln 0.1 − ln(0.06/0.1) in the upper branch, where p is above ln 0.09
 unfoldable pub straightOf : Ends → Ends
 straightOf b = record {
-  low = lnLow .low + lnTen .low - min (b .high) (lnA2 .high);
-  high = lnLow .high + lnTen .high - b .low;
+  low = minusLnLow .low + lnTen .low - min (b .high) (minusLnA2 .high);
+  high = minusLnLow .high + lnTen .high - b .low;
 }
 
 -- A where −p, which lies in b, is from t on, B where it is below t, and both where either may be
@@ -117,28 +117,28 @@ branchOf b t A B = cond (leb (t .low) (b .high)) (cond (ltb (b .low) (t .high)) 
 
 -- what the nonlinear part has beside bnl ln(0.06/0.1), over the slope
 unfoldable pub curveOf : Ends → Ends
-curveOf b = branchOf b lnA1 (exactly 0) (branchOf b lnA2 (cubicOf (zOf b)) (straightOf b))
+curveOf b = branchOf b minusLnA1 (exactly 0) (branchOf b minusLnA2 (cubicOf (zOf b)) (straightOf b))
 
 unfoldable pub nonlinearOf : SiteRow → ℕ → Ends → Motion
 nonlinearOf s v b =
     let n : Ends = slopeOf s v in
-    record { up = productOf n lnLow; down = productOf n (curveOf b) }
+    record { gain = productOf n minusLnLow; loss = productOf n (curveOf b) }
 
 -- ---- sums
 
 unfoldable pub endsOf : Motion → signed.Ends
-endsOf a = betweenOf (a .up .low) (a .down .high) (a .up .high) (a .down .low)
+endsOf a = betweenOf (a .gain .low) (a .loss .high) (a .gain .high) (a .loss .low)
 
 unfoldable pub plusOf : Motion → Motion → Motion
-plusOf a b = record { up = sumOf (a .up) (b .up); down = sumOf (a .down) (b .down) }
+plusOf a b = record { gain = sumOf (a .gain) (b .gain); loss = sumOf (a .loss) (b .loss) }
 
 unfoldable pub medianOf : Row → ℕ → ℕ → ℕ → ℕ → signed.Ends
 medianOf r m d v mechanism =
-    let rock : Motion = rockOf (distanceParts (r .distance)) (magnitudeParts (r .magnitude)) m (slantOf d (r .distance .h)) mechanism in
+    let rock : Motion = rockOf (distanceParts (r .distance)) (magnitudeParts (r .magnitude)) m (effectiveOf d (r .distance .h)) mechanism in
     let s : SiteRow = siteParts (r .site) in
     endsOf (plusOf (plusOf rock (linearOf s v)) (nonlinearOf s v (belowOf m d mechanism)))
 
-unfoldable pub nonlinearEndsOf : Site → ℕ → Ends → signed.Ends
+unfoldable pub nonlinearEndsOf : SiteAmplification → ℕ → Ends → signed.Ends
 nonlinearEndsOf s v b = endsOf (nonlinearOf (siteParts s) v b)
 
 unfoldable pub sigmaOf : Total → ℕ → signed.Ends

@@ -9,7 +9,8 @@ use Rattle.boore_atkinson.specs.Tables.{Total, Row, pga}
 use Rattle.boore_atkinson.specs.Rock.{onRock}
 use Rattle.boore_atkinson.specs.SiteTerm.{linearPart, bnl, nonlinearPart}
 
--- "Let p be ln of the rock acceleration: the PGA row with the scenario's own mechanism, no site term"
+-- "Let p be ln of the rock acceleration: the PGA row with the scenario's own mechanism, no site term. Caption 6 names Rref 5
+-- for it; the text equates it with PGA, and 1 km is used"
 unfoldable pub p : ℕ → ℕ → ℕ → Formula
 p magnitude projectionDistance mechanism = onRock pga magnitude projectionDistance mechanism
 
@@ -20,6 +21,6 @@ median r magnitude projectionDistance velocity mechanism =
     ⊕ linearPart (r .site) velocity
     ⊕ nonlinearPart (bnl (r .site) velocity) (p magnitude projectionDistance mechanism)
 
--- "Sigma is the exact table value, total, of Table 8: unspecified for code 9, specified otherwise"
+-- "Sigma is the exact table value, total, of Table 8: unspecified for code 9, specified otherwise"; in 10^-3
 unfoldable pub sigma : Total → ℕ → Formula
 sigma t mechanism = stated (pos (cond (eqb mechanism 9) (t .σTU) (t .σTM)) over 1_000)

@@ -1,7 +1,7 @@
 -- What is promised of the ends of median, sigma and nonlinear part, whatever the engine computes. proofs/Laws shows it of
 -- `medianOf`, `sigmaOf` and `nonlinearEndsOf`, which the contracts name; nobody has to read those to believe it.
 use mathlib.Core.Path.{_≡_}
-use Prim.Native.Nat.{ℕ, _^_, _≤_, _<_}
+use Prim.Native.Nat.{ℕ, _+_, _^_, _≤_, _<_}
 use lib.IntN.{pos, negℤ, _+ℤ_}
 use lib.Signed.{_≤ℤ_}
 use Rattle.signed.specs.declared.Ends.{Ends}
@@ -11,7 +11,7 @@ use Rattle.exact.specs.Pair.{_∈_}
 use Rattle.exact.specs.Formula.{stated, ends, Encloses}
 use Rattle.logarithm.specs.declared.Ends as natural
 use Rattle.scenario.specs.Refusal.{booreAtkinson}
-use Rattle.boore_atkinson.specs.Tables.{Site, Total, Row}
+use Rattle.boore_atkinson.specs.Tables.{SiteAmplification, Total, Row}
 use Rattle.boore_atkinson.specs.SiteTerm.{bnl, nonlinearPart}
 use Rattle.boore_atkinson.specs.Median.{median, sigma}
 
@@ -35,16 +35,24 @@ pub record NonlinearDomain (k velocity : ℕ) (b : natural.Ends) : Type 0 where
 abbrev pub medianWidth : ℕ
 medianWidth = 49
 
+-- how far the ends of p are apart at most, and those of the nonlinear part where p's are
+abbrev pub rockWidth : ℕ
+rockWidth = 4
+
+abbrev pub nonlinearWidth : ℕ
+nonlinearWidth = 42
+
 -- e encloses the median by the row r, at every fineness, is narrow, and has ends that a double equals
 pub record MedianEnds (r : Row) (magnitude projectionDistance velocity mechanism : ℕ) (e : Ends) : Type 0 where
   pub encloses : Encloses (ends (e .low) (e .high)) (median r magnitude projectionDistance velocity mechanism)
   pub narrow : e .high ≤ℤ (e .low +ℤ pos medianWidth)
   pub small : SmallerThan (2 ^ 53) e
 
--- e encloses the nonlinear part for every p of a pair, at every fineness, and has ends that a double equals
-pub record NonlinearEnds (s : Site) (velocity : ℕ) (b : natural.Ends) (e : Ends) : Type 0 where
+-- e encloses the nonlinear part for every p of a pair, at every fineness, is narrow where p is, and has ends that a double equals
+pub record NonlinearEnds (s : SiteAmplification) (velocity : ℕ) (b : natural.Ends) (e : Ends) : Type 0 where
   pub encloses : (p : Fraction) → p ∈ ends (negℤ (pos (b .high))) (negℤ (pos (b .low))) →
       Encloses (ends (e .low) (e .high)) (nonlinearPart (bnl s velocity) (stated p))
+  pub narrow : b .high ≤ b .low + rockWidth → e .high ≤ℤ (e .low +ℤ pos nonlinearWidth)
   pub small : SmallerThan (2 ^ 53) e
 
 -- e encloses sigma, at every fineness, and has ends that a double equals; "Its two ends are equal"

@@ -5,7 +5,7 @@ use lib.Dec.{eqb, leb}
 use lib.IntN.{ℤ, pos}
 use Rattle.exact.specs.Fraction.{Fraction, _over_, _+q_, _-q_, _*q_}
 use Rattle.exact.specs.Formula.{Formula, stated, ln, root, _⊕_, _⊖_, _⊗_}
-use Rattle.boore_atkinson.specs.Tables.{Distance, Magnitude, Row}
+use Rattle.boore_atkinson.specs.Tables.{DistanceScaling, MagnitudeScaling, Row}
 
 -- a coefficient that is printed with five decimals
 abbrev pub hundredThousandths : ℤ → Fraction
@@ -15,39 +15,46 @@ hundredThousandths z = z over 100_000
 abbrev pub hundredths : ℕ → Fraction
 hundredths n = pos n over 100
 
--- ---- equation 3
+-- ---- equations 3 and 4: the distance term
 
 -- "R = √(RJB² + h²) ..; with RJB and h in hundredths the sum of squares is a whole X"
-abbrev pub X : ℕ → ℕ → ℕ
-X projectionDistance h = projectionDistance * projectionDistance + h * h
+abbrev pub sumOfSquares : ℕ → ℕ → ℕ
+sumOfSquares projectionDistance h = projectionDistance * projectionDistance + h * h
 
 -- "R is its root over 100"
 unfoldable pub R : ℕ → Formula
 R X = stated (pos 1 over 100) ⊗ root X
 
--- "ln R is half of ln(R²)", and "R² is X/10000". Rref is 1 km, so ln(R/Rref) is ln R
+-- "ln R is half of ln(R²)", and "R² is X/10000". As Rref is 1 km, ln(R/Rref) is ln R
 unfoldable pub lnR : ℕ → Formula
 lnR X = stated (pos 1 over 2) ⊗ ln X 10_000
 
--- "c1 + c2 (M − Mref)", "Mref 4.5"
-unfoldable pub geometricSpread : Distance → ℕ → Fraction
-geometricSpread r magnitude =
-    hundredThousandths (r .c1) +q hundredThousandths (r .c2) *q (hundredths magnitude -q pos 45 over 10)
+-- "Mref 4.5, Rref 1 km" (Table 6's caption)
+abbrev pub Mref : Fraction
+Mref = pos 45 over 10
 
--- "distance term (c1 + c2 (M − Mref)) ln(R/Rref) + c3 (R − Rref)", "Rref 1 km"
-unfoldable pub distanceTerm : Distance → ℕ → ℕ → Formula
+abbrev pub Rref : Fraction
+Rref = pos 1 over 1
+
+-- "c1 + c2 (M − Mref)"
+unfoldable pub geometricalSpreading : DistanceScaling → ℕ → Fraction
+geometricalSpreading r magnitude =
+    hundredThousandths (r .c1) +q hundredThousandths (r .c2) *q (hundredths magnitude -q Mref)
+
+-- "distance term (c1 + c2 (M − Mref)) ln(R/Rref) + c3 (R − Rref)"
+unfoldable pub distanceTerm : DistanceScaling → ℕ → ℕ → Formula
 distanceTerm r magnitude projectionDistance =
-    stated (geometricSpread r magnitude) ⊗ lnR (X projectionDistance (r .h))
-    ⊕ stated (hundredThousandths (r .c3)) ⊗ (R (X projectionDistance (r .h)) ⊖ stated (pos 1 over 1))
+    stated (geometricalSpreading r magnitude) ⊗ lnR (sumOfSquares projectionDistance (r .h))
+    ⊕ stated (hundredThousandths (r .c3)) ⊗ (R (sumOfSquares projectionDistance (r .h)) ⊖ stated Rref)
 
--- ---- equations 4 and 5
+-- ---- equations 5a and 5b: the magnitude term
 
--- "e is e1 for code 9, e2 for 0, e3 for 1, e4 for 2 and 3"
-unfoldable pub e : Magnitude → ℕ → ℤ
+-- "e is e1 for code 9, e2 for 0, e3 for 1, e4 for 2 and 3" (no other code is accepted)
+unfoldable pub e : MagnitudeScaling → ℕ → ℤ
 e r mechanism = cond (eqb mechanism 9) (r .e1) (cond (eqb mechanism 0) (r .e2) (cond (eqb mechanism 1) (r .e3) (r .e4)))
 
 -- "magnitude term e + e5 (M − Mh) + e6 (M − Mh)² up to and including Mh, e + e7 (M − Mh) above"
-unfoldable pub magnitudeTerm : Magnitude → ℕ → ℕ → Fraction
+unfoldable pub magnitudeTerm : MagnitudeScaling → ℕ → ℕ → Fraction
 magnitudeTerm r magnitude mechanism =
     let away : Fraction = hundredths magnitude -q hundredths (r .Mh) in
     cond (leb magnitude (r .Mh))

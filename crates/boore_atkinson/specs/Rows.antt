@@ -1,19 +1,19 @@
 -- The code's rows: a row of a table by unsigned parts, and the sizes that the evaluation rests on.
 use Prim.Native.Nat.{ℕ, _+_, _*_, _≤_}
-use Rattle.signed.proofs.Whole.{up, down}
+use Rattle.signed.specs.Whole.{up, down}
 use Rattle.boore_atkinson.specs.declared.table.SiteRow.{SiteRow}
 use Rattle.boore_atkinson.specs.declared.table.DistanceRow.{DistanceRow}
 use Rattle.boore_atkinson.specs.declared.table.MagnitudeRow.{MagnitudeRow}
 use Rattle.boore_atkinson.specs.declared.table.TotalRow.{TotalRow}
-use Rattle.boore_atkinson.specs.Tables.{Site, Distance, Magnitude, Total}
+use Rattle.boore_atkinson.specs.Tables.{SiteAmplification, DistanceScaling, MagnitudeScaling, Total}
 
-abbrev pub siteParts : Site → SiteRow
+abbrev pub siteParts : SiteAmplification → SiteRow
 siteParts r = record { 0 = down (r .blin); 1 = down (r .b1); 2 = down (r .b2) }
 
-abbrev pub distanceParts : Distance → DistanceRow
+abbrev pub distanceParts : DistanceScaling → DistanceRow
 distanceParts r = record { 0 = down (r .c1); 1 = up (r .c2); 2 = down (r .c2); 3 = down (r .c3); 4 = r .h }
 
-abbrev pub magnitudeParts : Magnitude → MagnitudeRow
+abbrev pub magnitudeParts : MagnitudeScaling → MagnitudeRow
 magnitudeParts r = record {
   0 = up (r .e1);
   1 = down (r .e1);
@@ -40,7 +40,7 @@ pub record SiteLimits (r : SiteRow) : Type 0 where
   pub order : 10 * r .2 ≤ r .1
   pub apart : r .1 ≤ 530 + 10 * r .2
 
--- c1 + c2 (M − Mref) is below zero for M up to 8, and above −0.84
+-- c1 + c2 (M − Mref) is not above zero for M up to 8, and from −0.84 on
 pub record DistanceLimits (r : DistanceRow) : Type 0 where
   pub spread-least : r .1 * 350 ≤ 100 * r .0
   pub spread-most : 100 * r .0 + r .2 * 350 ≤ 8_400_000
@@ -67,18 +67,18 @@ pub record TotalLimits (r : Total) : Type 0 where
   pub specified : r .σTM ≤ 1_000
 
 -- and the signs that the parts rest on
-pub record SiteSigns (r : Site) : Type 0 where
+pub record SiteSigns (r : SiteAmplification) : Type 0 where
   pub sizes : SiteLimits (siteParts r)
   pub blin-below : up (r .blin) ≤ 0
   pub b1-below : up (r .b1) ≤ 0
   pub b2-below : up (r .b2) ≤ 0
 
-pub record DistanceSigns (r : Distance) : Type 0 where
+pub record DistanceSigns (r : DistanceScaling) : Type 0 where
   pub sizes : DistanceLimits (distanceParts r)
   pub c1-below : up (r .c1) ≤ 0
   pub c3-below : up (r .c3) ≤ 0
 
-pub record MagnitudeSigns (r : Magnitude) : Type 0 where
+pub record MagnitudeSigns (r : MagnitudeScaling) : Type 0 where
   pub sizes : MagnitudeLimits (magnitudeParts r)
   pub e5-above : down (r .e5) ≤ 0
   pub e6-below : up (r .e6) ≤ 0

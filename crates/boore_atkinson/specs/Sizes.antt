@@ -2,11 +2,11 @@
 use Prim.Native.Nat.{ℕ, _+_, _*_, _-_, _≤_}
 use Rattle.outward.specs.Evaluation.{Sized}
 use Rattle.boore_atkinson.specs.declared.Motion.{Motion}
-use Rattle.boore_atkinson.specs.declared.rock.Slant.{Slant}
+use Rattle.boore_atkinson.specs.declared.rock.EffectiveDistance.{EffectiveDistance}
 use Rattle.boore_atkinson.specs.declared.rock.Exact.{Exact}
 use Rattle.boore_atkinson.specs.declared.table.MagnitudeRow.{MagnitudeRow}
 
-pub record SlantSized (s : Slant) : Type 0 where
+pub record EffectiveSized (s : EffectiveDistance) : Type 0 where
   pub ln : Sized (s .ln) 2 21_000_000_000
   pub km : Sized (s .km) 78 330_000_000_000
 
@@ -23,6 +23,6 @@ pub record Small (e : Exact) (b : ℕ) : Type 0 where
 
 -- both parts are at most w wide together, and at most b each
 pub record MotionSized (a : Motion) (w b : ℕ) : Type 0 where
-  pub up : Sized (a .up) w b
-  pub down : Sized (a .down) w b
-  pub together : a .up .high + a .down .high ≤ a .up .low + a .down .low + w
+  pub gain : Sized (a .gain) w b
+  pub loss : Sized (a .loss) w b
+  pub together : a .gain .high + a .loss .high ≤ a .gain .low + a .loss .low + w

@@ -1,27 +1,30 @@
 -- Tables 3, 4, 6, 7 and the totals of Table 8 of source document 003, with the printed digits; periods in thousandths of a
--- second, 0 for the row PGA. The row PGV, which is printed before it, is left out: "Peak velocity .. lie outside it".
+-- second, 0 for the row PGA. The row PGV, which is printed before it, is left out: "Peak velocity .. lie outside it". (The
+-- transcript has lost Table 4's names and Table 8's periods.)
 use mathlib.Core.List.{List, [], _∷_}
 use Prim.Native.Nat.{ℕ}
 use lib.IntN.{ℤ, pos, negℤ}
 use lib.ListN.{getD}
+use Rattle.scenario.specs.Refusal.{booreAtkinsonRow}
 
 abbrev neg : ℕ → ℤ
 neg n = negℤ (pos n)
 
 -- ---- Table 3, "Period-dependent site-amplification coefficients": blin and b1 in 10^-3, b2 in 10^-2
 
-pub record Site : Type 0 where
+pub record SiteAmplification : Type 0 where
   pub period : ℕ
   pub blin : ℤ
   pub b1 : ℤ
   pub b2 : ℤ
 
-abbrev site : ℕ → ℤ → ℤ → ℤ → Site
+abbrev site : ℕ → ℤ → ℤ → ℤ → SiteAmplification
 site period blin b1 b2 = record { period = period; blin = blin; b1 = b1; b2 = b2 }
 
 -- b2 at 0.2 s "is −0.19" (document 01, 'The site term')
-abbrev pub table3 : List Site
+abbrev pub table3 : List SiteAmplification
 table3 =
+    --   period blin b1 b2
     site 0 (neg 360) (neg 640) (neg 14) ∷
     site 10 (neg 360) (neg 640) (neg 14) ∷
     site 20 (neg 340) (neg 630) (neg 12) ∷
@@ -68,18 +71,19 @@ vref = 760
 
 -- ---- Table 6, "Distance-scaling coefficients": c1, c2 and c3 in 10^-5, h in hundredths of a km
 
-pub record Distance : Type 0 where
+pub record DistanceScaling : Type 0 where
   pub period : ℕ
   pub c1 : ℤ
   pub c2 : ℤ
   pub c3 : ℤ
   pub h : ℕ
 
-abbrev distance : ℕ → ℤ → ℤ → ℤ → ℕ → Distance
+abbrev distance : ℕ → ℤ → ℤ → ℤ → ℕ → DistanceScaling
 distance period c1 c2 c3 h = record { period = period; c1 = c1; c2 = c2; c3 = c3; h = h }
 
-abbrev pub table6 : List Distance
+abbrev pub table6 : List DistanceScaling
 table6 =
+    --       period c1 c2 c3 h
     distance 0 (neg 66050) (pos 11970) (neg 1151) 135 ∷
     distance 10 (neg 66220) (pos 12000) (neg 1151) 135 ∷
     distance 20 (neg 66600) (pos 12280) (neg 1151) 135 ∷
@@ -106,7 +110,7 @@ table6 =
 
 -- ---- Table 7, "Magnitude-scaling coefficients": e1 to e7 in 10^-5, the hinge magnitude Mh in hundredths
 
-pub record Magnitude : Type 0 where
+pub record MagnitudeScaling : Type 0 where
   pub period : ℕ
   pub e1 : ℤ
   pub e2 : ℤ
@@ -117,7 +121,7 @@ pub record Magnitude : Type 0 where
   pub e7 : ℤ
   pub Mh : ℕ
 
-abbrev magnitude : ℕ → ℤ → ℤ → ℤ → ℤ → ℤ → ℤ → ℤ → ℕ → Magnitude
+abbrev magnitude : ℕ → ℤ → ℤ → ℤ → ℤ → ℤ → ℤ → ℤ → ℕ → MagnitudeScaling
 magnitude period e1 e2 e3 e4 e5 e6 e7 Mh = record {
   period = period;
   e1 = e1;
@@ -130,8 +134,9 @@ magnitude period e1 e2 e3 e4 e5 e6 e7 Mh = record {
   Mh = Mh;
 }
 
-abbrev pub table7 : List Magnitude
+abbrev pub table7 : List MagnitudeScaling
 table7 =
+    --        period e1 e2 e3 e4 e5 e6 e7 Mh
     magnitude 0 (neg 53804) (neg 50350) (neg 75472) (neg 50970) (pos 28805) (neg 10164) (pos 0) 675 ∷
     magnitude 10 (neg 52883) (neg 49429) (neg 74551) (neg 49966) (pos 28897) (neg 10019) (pos 0) 675 ∷
     magnitude 20 (neg 52192) (neg 48508) (neg 73906) (neg 48895) (pos 25144) (neg 11006) (pos 0) 675 ∷
@@ -168,6 +173,7 @@ total period σTU σTM = record { period = period; σTU = σTU; σTM = σTM }
 
 abbrev pub table8 : List Total
 table8 =
+    --    period σTU σTM
     total 0 566 564 ∷
     total 10 569 566 ∷
     total 20 569 566 ∷
@@ -195,9 +201,9 @@ table8 =
 -- ---- the rows of a period, counted from 0 at PGA
 
 pub record Row : Type 0 where
-  pub site : Site
-  pub distance : Distance
-  pub magnitude : Magnitude
+  pub site : SiteAmplification
+  pub distance : DistanceScaling
+  pub magnitude : MagnitudeScaling
 
 -- row k of Tables 3, 6 and 7
 unfoldable pub rowAt : ℕ → Row
@@ -210,6 +216,13 @@ rowAt k = record {
 -- row k of Table 8
 unfoldable pub totalAt : ℕ → Total
 totalAt k = getD table8 k (total 0 0 0)
+
+-- the rows of a period
+unfoldable pub rowFor : ℕ → Row
+rowFor period = rowAt (booreAtkinsonRow period)
+
+unfoldable pub totalFor : ℕ → Total
+totalFor period = totalAt (booreAtkinsonRow period)
 
 -- "the row PGA"
 abbrev pub pga : Row

@@ -15,10 +15,10 @@ mod table;
 use signed::between;
 use table::TotalRow;
 
-// Something between up's ends, less something between down's.
+// Something between the gain's ends, less something between the loss's.
 pub struct Motion {
-    pub up: logarithm::Ends,
-    pub down: logarithm::Ends,
+    pub gain: logarithm::Ends,
+    pub loss: logarithm::Ends,
 }
 
 fn plus(a: Motion, b: Motion) -> Motion
@@ -26,8 +26,8 @@ fn plus(a: Motion, b: Motion) -> Motion
     ensures { λ r. ⌜ r ≡ plusOf a b ⌝ }
 {
     Motion {
-        up: outward::sum(a.up, b.up),
-        down: outward::sum(a.down, b.down),
+        gain: outward::sum(a.gain, b.gain),
+        loss: outward::sum(a.loss, b.loss),
     }
 }
 
@@ -35,7 +35,7 @@ fn ends(a: Motion) -> signed::Ends
     requires { ⌜ MotionSized a 800_000_000_000 800_000_000_000 ⌝ }
     ensures { λ r. ⌜ r ≡ endsOf a ⌝ }
 {
-    between(a.up.low, a.down.high, a.up.high, a.down.low)
+    between(a.gain.low, a.loss.high, a.gain.high, a.loss.low)
 }
 
 // The median by row k of the tables, 0 for PGA. What is promised of it is MedianEnds of specs/Promise.
@@ -53,8 +53,8 @@ pub fn median(
     let d = projection_distance as u64;
     let v = velocity as u64;
     let row = table::distance_at(k);
-    let slant = rock::slant_distance(d, row.4 as u64);
-    let motion = rock::rock(row, table::magnitude_at(k), m, slant, mechanism);
+    let effective = rock::effective_distance(d, row.4 as u64);
+    let motion = rock::rock(row, table::magnitude_at(k), m, effective, mechanism);
     let s = table::site_at(k);
     let linear = site::linear(s, v);
     let nonlinear = site::nonlinear_part(s, v, rock::below(m, d, mechanism));

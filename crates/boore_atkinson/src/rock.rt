@@ -3,16 +3,16 @@ ghost use mathlib.Core.Path.{_≡_};
 ghost use Prim.Native.Nat.{_≤_, _+_, _*_};
 ghost use Rattle.outward.specs.Evaluation.{Sized};
 ghost use Rattle.boore_atkinson.specs.Rows.{DistanceLimits, MagnitudeLimits};
-ghost use Rattle.boore_atkinson.specs.Evaluation.{slantOf, spreadOf, fallOf, levelOf, magnitudeOf, rockOf, belowOf};
-ghost use Rattle.boore_atkinson.specs.Sizes.{SlantSized, MagnitudeBounds, Small, MotionSized};
+ghost use Rattle.boore_atkinson.specs.Evaluation.{effectiveOf, spreadOf, fallOf, levelOf, magnitudeOf, rockOf, belowOf};
+ghost use Rattle.boore_atkinson.specs.Sizes.{EffectiveSized, MagnitudeBounds, Small, MotionSized};
 use crate::Motion;
 use crate::table;
 use crate::table::DistanceRow;
 use crate::table::MagnitudeRow;
 use logarithm::Ends;
 
-// R = √(RJB² + h²), by ln R² and by R in km.
-pub struct Slant {
+// The distance R = √(RJB² + h²), by ln R² and by R in km.
+pub struct EffectiveDistance {
     pub ln: Ends,
     pub km: Ends,
 }
@@ -24,13 +24,13 @@ pub struct Exact {
 }
 
 // R, from a projection distance and h.
-pub fn slant_distance(projection_distance: u64, h: u64) -> Slant
+pub fn effective_distance(projection_distance: u64, h: u64) -> EffectiveDistance
     requires { ⌜ («projection_distance» ≤ 19_999) × (100 ≤ h) × (h ≤ 400) ⌝ }
-    ensures { λ s. ⌜ (s ≡ slantOf «projection_distance» h) × SlantSized s ⌝ }
+    ensures { λ s. ⌜ (s ≡ effectiveOf «projection_distance» h) × EffectiveSized s ⌝ }
 {
     let x = projection_distance * projection_distance + h * h;
     let k = logarithm::root(x);
-    Slant {
+    EffectiveDistance {
         ln: logarithm::ln(x, 10_000),
         km: Ends {
             low: k * 78_125 / 1_024,
@@ -49,13 +49,13 @@ fn spread(r: DistanceRow, m: u64) -> u64
 }
 
 // −(c1 + c2 (M − Mref)) ln R − c3 R.
-fn fall(r: DistanceRow, m: u64, s: Slant) -> Ends
-    requires { ⌜ DistanceLimits r × (500 ≤ m) × (m ≤ 800) × SlantSized s ⌝ }
+fn fall(r: DistanceRow, m: u64, s: EffectiveDistance) -> Ends
+    requires { ⌜ DistanceLimits r × (500 ≤ m) × (m ≤ 800) × EffectiveSized s ⌝ }
     ensures { λ e. ⌜ (e ≡ fallOf r m s) × Sized e 4 12_700_000_000 ⌝ }
 {
-    let near = outward::multiple(spread(r, m), s.ln);
-    let far = outward::multiple(200 * r.3 as u64, s.km);
-    outward::sum(near, far)
+    let spreading = outward::multiple(spread(r, m), s.ln);
+    let anelastic = outward::multiple(200 * r.3 as u64, s.km);
+    outward::sum(spreading, anelastic)
 }
 
 // e, by the code of the mechanism.
@@ -105,16 +105,19 @@ fn magnitude_term(r: MagnitudeRow, m: u64, mechanism: u8) -> Exact
 }
 
 // The motion on rock by a row's two parts.
-pub fn rock(r: DistanceRow, q: MagnitudeRow, m: u64, s: Slant, mechanism: u8) -> Motion
-    requires { ⌜ DistanceLimits r × MagnitudeLimits q × (500 ≤ m) × (m ≤ 800) × SlantSized s ⌝ }
+pub fn rock(r: DistanceRow, q: MagnitudeRow, m: u64, s: EffectiveDistance, mechanism: u8) -> Motion
+    requires { ⌜ DistanceLimits r × MagnitudeLimits q × (500 ≤ m) × (m ≤ 800) × EffectiveSized s ⌝ }
     ensures { λ a. ⌜ (a ≡ rockOf r q m s mechanism) × MotionSized a 4 80_000_000_000 ⌝ }
 {
     let f = fall(r, m, s);
     let g = magnitude_term(q, m, mechanism);
-    let up = g.gain + 10_000 * r.3 as u64;
+    let gain = g.gain + 10_000 * r.3 as u64;
     Motion {
-        up: Ends { low: up, high: up },
-        down: Ends {
+        gain: Ends {
+            low: gain,
+            high: gain,
+        },
+        loss: Ends {
             low: g.loss + f.low,
             high: g.loss + f.high,
         },
@@ -127,10 +130,10 @@ pub fn below(m: u64, projection_distance: u64, mechanism: u8) -> Ends
     ensures { λ b. ⌜ (b ≡ belowOf m «projection_distance» mechanism) × Sized b 4 80_000_000_000 ⌝ }
 {
     let r = table::pga_distance();
-    let s = slant_distance(projection_distance, r.4 as u64);
+    let s = effective_distance(projection_distance, r.4 as u64);
     let a = rock(r, table::pga_magnitude(), m, s, mechanism);
     Ends {
-        low: a.down.low - a.up.low,
-        high: a.down.high - a.up.low,
+        low: a.loss.low - a.gain.low,
+        high: a.loss.high - a.gain.low,
     }
 }

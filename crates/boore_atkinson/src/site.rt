@@ -4,7 +4,7 @@ ghost use Prim.Native.Nat.{_≤_, _<_};
 ghost use Rattle.outward.specs.Evaluation.{Sized};
 ghost use Rattle.boore_atkinson.specs.Rows.{SiteLimits};
 ghost use Rattle.boore_atkinson.specs.Evaluation.{exactly, linearOf, slowSlopeOf, fastSlopeOf, slopeOf, zOf, cubicOf, straightOf, branchOf, curveOf, nonlinearOf};
-ghost use Rattle.boore_atkinson.specs.Constants.{lnA2};
+ghost use Rattle.boore_atkinson.specs.Constants.{minusLnA2};
 ghost use Rattle.boore_atkinson.specs.Sizes.{MotionSized};
 use crate::Motion;
 use crate::table::SiteRow;
@@ -17,7 +17,7 @@ use outward::span;
 use outward::sum;
 
 // ln(0.1/0.06), 1/ln(300/180), 1/ln(760/300), and c and d over the slope.
-const LN_LOW: Ends = Ends {
+const MINUS_LN_LOW: Ends = Ends {
     low: 510_825_623,
     high: 510_825_624,
 };
@@ -56,13 +56,13 @@ pub fn linear(s: SiteRow, v: u64) -> Motion
     let factor = 20_000 * s.0 as u64;
     if v < 7_600 {
         return Motion {
-            up: multiple(factor, logarithm::ln(7_600, v)),
-            down: exact(0),
+            gain: multiple(factor, logarithm::ln(7_600, v)),
+            loss: exact(0),
         };
     }
     Motion {
-        up: exact(0),
-        down: multiple(factor, logarithm::ln(v, 7_600)),
+        gain: exact(0),
+        loss: multiple(factor, logarithm::ln(v, 7_600)),
     }
 }
 
@@ -106,7 +106,7 @@ fn slope(s: SiteRow, v: u64) -> Ends
 }
 
 // z = p − ln 0.03, where −p lies in b and p is above ln 0.03 and up to ln 0.09.
-fn height(b: Ends) -> Ends
+fn transition_z(b: Ends) -> Ends
     requires { ⌜ (b .low ≤ b .high) × (b .low < 3_506_557_898) × (2_407_945_608 ≤ b .high) ⌝ }
     ensures { λ z. ⌜ (z ≡ zOf b) × Sized z 1_098_612_290 1_098_612_290 ⌝ }
 {
@@ -139,16 +139,16 @@ fn straight(b: Ends) -> Ends
 // The branch or branches of p above ln 0.03.
 fn upper(b: Ends) -> Ends
     requires { ⌜ (b .low ≤ b .high) × (b .low < 3_506_557_898) ⌝ }
-    ensures { λ q. ⌜ (q ≡ branchOf b lnA2 (cubicOf (zOf b)) (straightOf b)) × Sized q 2_820_000_000 2_820_000_000 ⌝ }
+    ensures { λ q. ⌜ (q ≡ branchOf b minusLnA2 (cubicOf (zOf b)) (straightOf b)) × Sized q 2_820_000_000 2_820_000_000 ⌝ }
 {
     if 2_407_945_609 <= b.low {
-        return cubic(height(b));
+        return cubic(transition_z(b));
     }
     let s = straight(b);
     if b.high < 2_407_945_608 {
         return s;
     }
-    span(cubic(height(b)), s)
+    span(cubic(transition_z(b)), s)
 }
 
 // What the nonlinear part has beside bnl ln(0.06/0.1), over the slope: every branch that b reaches.
@@ -173,7 +173,7 @@ pub fn nonlinear_part(s: SiteRow, v: u64, b: Ends) -> Motion
 {
     let n = slope(s, v);
     Motion {
-        up: product(n, LN_LOW),
-        down: product(n, curve(b)),
+        gain: product(n, MINUS_LN_LOW),
+        loss: product(n, curve(b)),
     }
 }

@@ -7,7 +7,8 @@ use native.Mathlib.Nat.{mul-pos, mul-le-mul-right, le-of-mul-le-mul-right}
 use native.Mathlib.Omega.{arith}
 use lib.IntN.{ℤ, pos, negsuc, _*ℤ_}
 use Rattle.exact.specs.Fraction.{Fraction, _over_, leQ, _≤q_, _<q_, _≈q_, _+q_, negQ, _-q_, _*q_, zeroQ, flip, recipQ, minQ, maxQ}
-use Rattle.signed.proofs.Whole.{whole-ext, up, down, le-in, le-out, gt-out, neg-up, neg-down, add-is, mul-is}
+use Rattle.signed.specs.Whole.{up, down}
+use Rattle.signed.proofs.Whole.{whole-ext, le-in, le-out, gt-out, neg-up, neg-down, add-is, mul-is}
 
 -- x is (u − v) / d
 pub record Is (x : Fraction) (u v d : ℕ) : Type 0 where

@@ -6,7 +6,7 @@ use native.Mathlib.Omega.{arith}
 use lib.IntN.{pos}
 use Rattle.exact.specs.Fraction.{_over_, _≤q_, _≈q_, _+q_, zeroQ}
 use Rattle.exact.specs.Logarithm.{harmonic}
-use Rattle.signed.proofs.Whole.{up, down}
+use Rattle.signed.specs.Whole.{up, down}
 use Rattle.exact.proofs.FractionLaws.{zero-Is, over-Is, add-Is, le-of, ≤q-refl, ≤q-trans, ≤q-antisym, ≈q-≤q, ≈q-≥q, ≈q-sym, add-mono, add-more, add-assoc, zeroQ-add}
 
 -- ---- n / d with n not negative

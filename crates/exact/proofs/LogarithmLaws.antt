@@ -11,7 +11,7 @@ use Rattle.exact.specs.Fraction.{_over_, _≤q_, _<q_, _+q_, negQ, zeroQ
 use Rattle.exact.specs.Pair.{Proper, AboveZero}
 use Rattle.exact.specs.Logarithm.{harmonic, lowerSum, upperSum, lnPair}
 use Rattle.exact.specs.Formula.{ln, eval, Defined, Encloses, units, ends}
-use Rattle.signed.proofs.Whole.{up, down}
+use Rattle.signed.specs.Whole.{up, down}
 use Rattle.exact.proofs.FractionLaws.{zero-Is, over-Is, le-of, lt-of, ≤q-refl, ≤q-trans, <q-≤q-trans, ≈q-≤q, ≈q-≥q, add-mono, add-more, add-comm-le, neg-anti}
 use Rattle.exact.proofs.PairLaws.{ends-meet}
 use Rattle.exact.proofs.Harmonic.{over-≤, over-add, harmonic-split, harmonic-least, harmonic-more, finer-upper, finer-lower}
@@ -78,6 +78,11 @@ module _ (n : ℕ) {a c b : ℕ} (hb : b ≤ c) (ha : c ≤ a) where
   lower-chain =
       ≤q-trans (rw two-gaps (rw past-suc at (≈q-≤q (harmonic-split (c * n - b * n) (a * n - c * n) (suc (b * n))))))
       (add-comm-le _ _)
+
+-- the sum from a greater b is the lesser
+pub upper-shorter : (n : ℕ) {a c b : ℕ} → 1 ≤ b → b ≤ c → c ≤ a → 1 ≤ n → upperSum n a c ≤q upperSum n a b
+unfolding upperSum
+upper-shorter n hb p q h = ≤q-trans (add-more _ (harmonic-least _ _ (one-le-mul hb h))) (upper-chain n p q)
 
 pub bounds-plus : (S : ℕ) {x y v w a c b : ℕ} → 1 ≤ S → b ≤ c → c ≤ a →
     Bounds S x y a c → Bounds S v w c b → Bounds S (x + v) (y + w) a b

@@ -1,4 +1,4 @@
--- What `medianOf` and `sigmaOf` promise (specs/Promise).
+-- What `medianOf` promises (specs/Promise).
 use mathlib.Core.Path.{_≡_, refl}
 use mathlib.Core.Bool.{Bool, true, false}
 use Prim.Native.Nat.{ℕ, _+_, _*_, _-_, _^_, _≤_, _<_, min, max}
@@ -10,7 +10,7 @@ use lib.Dec.{ltb, eqb}
 use lib.IntN.{ℤ, pos}
 use Rattle.signed.specs.declared.Ends.{Ends}
 use Rattle.signed.specs.Evaluation.{betweenOf}
-use Rattle.signed.proofs.Whole.{up, down}
+use Rattle.signed.specs.Whole.{up, down}
 use Rattle.signed.proofs.Laws.{between-small}
 use Rattle.exact.specs.Fraction.{Fraction, _over_, _+q_, _-q_, _*q_}
 use Rattle.exact.specs.Pair.{_∈_}
@@ -25,7 +25,7 @@ use Rattle.outward.specs.Evaluation.{Sized, scale}
 use Rattle.outward.proofs.Laws.{Held, HeldBelow, multiple-held, minus-held, lies-between, narrow-between}
 use Rattle.idriss.specs.declared.table.Row as code
 use Rattle.idriss.specs.Tables.{Row, rowAt}
-use Rattle.idriss.specs.Median.{tenThousandths, hundredths, alphaPart, betaFactor, F, linearPart, median}
+use Rattle.idriss.specs.Median.{tenThousandths, hundredths, alphaPart, betaFactor, F, anelasticAndFaultPart, median}
 use Rattle.idriss.specs.Promise.{MedianDomain, medianWidth, MedianEnds}
 use Rattle.idriss.specs.Evaluation.{parts, TableLimits, alphaSum, betaOf, gainsOf, lossesOf, distanceTermOf, siteTermOf, medianOf}
 use Rattle.idriss.proofs.Rows.{row-limits}
@@ -61,8 +61,8 @@ module _ (r : Row) where
     linear-lies : (d mechanism : ℕ) →
         let gain : ℕ = 10_000_000 * (up (r .φ) * F mechanism) in
         let loss : ℕ = 1_000 * (down (r .γ) * d) in
-        Lies (linearPart r d mechanism) gain loss gain loss
-    unfolding linearPart up down
+        Lies (anelasticAndFaultPart r d mechanism) gain loss gain loss
+    unfolding anelasticAndFaultPart up down
     linear-lies d mechanism =
         lies-stated
         (add-Is (mul-Is (over-below (r .γ) 10_000 (omega arith) (l .gamma-below)) (hundredths-Is d))
@@ -143,4 +143,4 @@ module _ (r : Row) where
 pub medianOf-promise : (third : Bool) {k m d v : ℕ} (mechanism : ℕ) → MedianDomain k m d v →
     MedianEnds (rowAt third k) m d v mechanism (medianOf (rowAt third k) m d v mechanism)
 medianOf-promise third {k} mechanism h =
-    median-ends (rowAt third k) (row-limits third k (h .row)) (h .magnitude-low) (h .magnitude-high) (h .near) (h .fast) mechanism
+    median-ends (rowAt third k) (row-limits third k (h .row)) (h .magnitude-low) (h .magnitude-high) (h .near) (h .slow) mechanism

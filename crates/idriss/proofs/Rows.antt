@@ -1,16 +1,19 @@
--- Signs and sizes of the coefficients: one test over all rows of both tables. And the rows are those of the periods.
-use mathlib.Core.Path.{_≡_, refl}
+-- Signs and sizes of the coefficients: one test over all rows of both tables. And the row for a period is
+-- the one that the paper prints for it.
+use mathlib.Core.Path.{_≡_}
 use mathlib.Core.Bool.{Bool, true, false, cond}
-use mathlib.Core.List.{List, [], _∷_, map}
+use mathlib.Core.List.{List, [], _∷_}
 use Prim.Native.Nat.{ℕ, _+_, _*_, _<_}
 use native.Mathlib.Omega.{arith}
-use lib.Dec.{T}
+use lib.Dec.{T, eqb, eqb→eq}
 use lib.ListN.{getD}
-use Rattle.signed.proofs.Whole.{up, down}
+use Rattle.signed.specs.Whole.{up, down}
 use Rattle.exact.proofs.Tests.{every, every-at, allLe, AllLe, all-le}
-use Rattle.scenario.specs.Refusal.{idrissPeriods}
+use Rattle.scenario.specs.Lists.{among}
+use Rattle.scenario.specs.Refusal.{idriss, idrissRow}
+use Rattle.scenario.proofs.ListLaws.{all, all-at}
 use Rattle.idriss.specs.declared.table.Row as code
-use Rattle.idriss.specs.Tables.{Row, table2, table3, noRow, rowAt}
+use Rattle.idriss.specs.Tables.{Row, table2, table3, noRow, takesTable3, rowAt, rowFor, ownPeriod}
 use Rattle.idriss.specs.Evaluation.{parts, TableLimits}
 
 -- the limits, each as two numbers in order
@@ -18,7 +21,7 @@ abbrev limits : Row → List (ℕ × ℕ)
 limits r =
     let p : code.Row = parts r in
     (p .0, 120_000) ∷ (p .1, 120_000) ∷ (p .2, 20_000) ∷ (p .3, 20_000) ∷ (p .4, 1_000) ∷ (p .5, 1_000) ∷ (p .6, 30_500) ∷
-    (p .7 * 790, 100 * p .6) ∷ (100 * p .6, 2_000_000 + p .7 * 450) ∷ (p .8, 1_500) ∷ (p .9, 100) ∷ (p .10, 10) ∷
+    (p .7 * 790 + 300_000, 100 * p .6) ∷ (100 * p .6, 2_000_000 + p .7 * 450) ∷ (p .8, 1_500) ∷ (p .9, 100) ∷ (p .10, 10) ∷
     (down (r .β1), 0) ∷ (up (r .β2), 0) ∷ (up (r .ξ), 0) ∷ (up (r .γ), 0) ∷ (down (r .φ), 0) ∷ []
 
 in-order : (r : Row) → AllLe (limits r) → TableLimits r
@@ -57,9 +60,18 @@ unfolding rowAt
 row-limits true k h = in-order _ (all-le (limits (getD table3 k noRow)) (every-at test noRow 0 table3 (both-tables true) k h))
 row-limits false k h = in-order _ (all-le (limits (getD table2 k noRow)) (every-at test noRow 0 table2 (both-tables false) k h))
 
--- the printed periods are those of the scenario's rows, in their order
-pub periods-2 : map (λ (r : Row). r .period) table2 ≡ idrissPeriods
-periods-2 = refl
+-- ---- the row for a period is the one that the paper prints for it, by either table
 
-pub periods-3 : map (λ (r : Row). r .period) table3 ≡ idrissPeriods
-periods-3 = refl
+abbrev is-printed : Bool → ℕ → Bool
+is-printed third T = eqb (rowAt third (idrissRow T) .period) (ownPeriod T)
+
+all-printed : (third : Bool) → T (all (is-printed third) (0 ∷ idriss .periods))
+unfolding rowAt idrissRow
+all-printed true = tt
+all-printed false = tt
+
+pub row-printed : (magnitude period : ℕ) → among (0 ∷ idriss .periods) period ≡ true →
+    rowFor magnitude period .period ≡ ownPeriod period
+unfolding rowFor
+row-printed magnitude T e =
+    eqb→eq _ _ (all-at (is-printed (takesTable3 magnitude)) (0 ∷ idriss .periods) T (all-printed (takesTable3 magnitude)) e)

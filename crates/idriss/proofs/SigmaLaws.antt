@@ -10,7 +10,7 @@ use lib.IntN.{pos, _+ℤ_}
 use lib.Signed.{_≤ℤ_}
 use Rattle.signed.specs.declared.Ends.{Ends}
 use Rattle.signed.specs.Evaluation.{betweenOf}
-use Rattle.signed.proofs.Whole.{up, down}
+use Rattle.signed.specs.Whole.{up, down}
 use Rattle.signed.proofs.Laws.{between-small}
 use Rattle.exact.specs.Fraction.{_over_, _*q_}
 use Rattle.exact.specs.Pair.{_∈_}
@@ -23,8 +23,9 @@ use Rattle.logarithm.specs.Promise.{LnDomain}
 use Rattle.logarithm.specs.Evaluation.{lnOf}
 use Rattle.logarithm.proofs.Enclosure.{Known, encloses}
 use Rattle.outward.proofs.Laws.{Held, HeldBelow, multiple-held, multiple-below, lies-between, narrow-between}
+use Rattle.idriss.specs.Tables.{ownPeriod}
 use Rattle.idriss.specs.Median.{hundredths}
-use Rattle.idriss.specs.Sigma.{heldTo, ownPeriod, sigma}
+use Rattle.idriss.specs.Sigma.{heldTo, sigma}
 use Rattle.idriss.specs.Promise.{SigmaDomain, sigmaWidth, SigmaEnds}
 use Rattle.idriss.specs.Periods.{periodLogarithm}
 use Rattle.idriss.specs.Evaluation.{periodTermOf, sigmaOf}

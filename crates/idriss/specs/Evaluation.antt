@@ -1,11 +1,11 @@
 -- What median and sigma compute, in whole numbers of units of 10^-9. A change of the way of computing swaps these
--- definitions behind their names; callers go by the laws of proofs/Laws, and never by this text.
+-- definitions behind their names; callers go by the laws of proofs/Laws and SigmaLaws, and never by this text.
 use mathlib.Core.Bool.{cond}
 use Prim.Native.Nat.{ℕ, _+_, _*_, _-_, _≤_, min}
 use lib.Dec.{ltb}
 use Rattle.signed.specs.declared.Ends.{Ends}
 use Rattle.signed.specs.Evaluation.{betweenOf}
-use Rattle.signed.proofs.Whole.{up, down}
+use Rattle.signed.specs.Whole.{up, down}
 use Rattle.logarithm.specs.declared.Ends as natural
 use Rattle.logarithm.specs.Evaluation.{lnOf}
 use Rattle.outward.specs.Evaluation.{multipleOf}
@@ -42,7 +42,7 @@ pub record RowLimits (r : code.Row) : Type 0 where
   pub alpha3-gain : r .4 ≤ 1_000
   pub alpha3-loss : r .5 ≤ 1_000
   pub beta1 : r .6 ≤ 30_500
-  pub beta-least : r .7 * 790 ≤ 100 * r .6
+  pub beta-least : r .7 * 790 + 300_000 ≤ 100 * r .6
   pub beta-most : 100 * r .6 ≤ 2_000_000 + r .7 * 450
   pub xi : r .8 ≤ 1_500
   pub gamma : r .9 ≤ 100

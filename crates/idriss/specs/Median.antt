@@ -28,13 +28,13 @@ alphaPart r magnitude =
 unfoldable pub betaFactor : Row → ℕ → Fraction
 betaFactor r magnitude = tenThousandths (r .β1) +q tenThousandths (r .β2) *q hundredths magnitude
 
--- "F is 0 for codes 0 and 1, and 1 for 2, 3 and 4"
+-- "F is 0 for codes 0 and 1, and 1 for 2, 3 and 4" (no other code is accepted)
 unfoldable pub F : ℕ → ℕ
 F mechanism = cond (among (2 ∷ 3 ∷ 4 ∷ []) mechanism) 1 0
 
 -- "γ R + φ F"
-unfoldable pub linearPart : Row → ℕ → ℕ → Fraction
-linearPart r ruptureDistance mechanism =
+unfoldable pub anelasticAndFaultPart : Row → ℕ → ℕ → Fraction
+anelasticAndFaultPart r ruptureDistance mechanism =
     tenThousandths (r .γ) *q hundredths ruptureDistance +q r .φ over 100 *q pos (F mechanism) over 1
 
 -- R + 10 is R's hundredths and 1000 over 100; V is in tenths, and "V above 1200 counts as 1200"
@@ -43,4 +43,4 @@ median r magnitude ruptureDistance velocity mechanism =
     stated (alphaPart r magnitude)
     ⊖ stated (betaFactor r magnitude) ⊗ ln (ruptureDistance + 1_000) 100
     ⊕ stated (r .ξ over 1_000) ⊗ ln (min velocity 12_000) 10
-    ⊕ stated (linearPart r ruptureDistance mechanism)
+    ⊕ stated (anelasticAndFaultPart r ruptureDistance mechanism)

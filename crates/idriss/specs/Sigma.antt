@@ -1,20 +1,15 @@
 -- The standard error. Source document 000, equation 4; document 01, 'Idriss': "1.18 + 0.035 ln T − 0.06 M, with T in
 -- seconds held to 0.05 to 3 and M held to 5 to 7.5".
-use mathlib.Core.Bool.{cond}
 use Prim.Native.Nat.{ℕ, min, max}
-use lib.Dec.{eqb}
 use lib.IntN.{pos}
 use Rattle.exact.specs.Fraction.{_over_, _*q_}
 use Rattle.exact.specs.Formula.{Formula, stated, ln, _⊕_, _⊖_, _⊗_}
+use Rattle.idriss.specs.Tables.{ownPeriod}
 use Rattle.idriss.specs.Median.{hundredths}
 
 -- x held to the range from least to most
 abbrev pub heldTo : ℕ → ℕ → ℕ → ℕ
 heldTo least most x = min (max x least) most
-
--- "Period 0 uses the row 0.01": the period in thousandths of a second
-abbrev pub ownPeriod : ℕ → ℕ
-ownPeriod period = cond (eqb period 0) 10 period
 
 -- T is in thousandths
 unfoldable pub sigma : ℕ → ℕ → Formula

@@ -3,14 +3,15 @@
 use mathlib.Core.Bool.{Bool, cond}
 use mathlib.Core.List.{List, [], _∷_}
 use Prim.Native.Nat.{ℕ}
-use lib.Dec.{ltb}
+use lib.Dec.{eqb, ltb}
 use lib.IntN.{ℤ, pos, negℤ}
 use lib.ListN.{getD}
+use Rattle.scenario.specs.Refusal.{idrissRow}
 
 abbrev neg : ℕ → ℤ
 neg n = negℤ (pos n)
 
--- a row, in the papers' order
+-- a row, in the paper's order
 pub record Row : Type 0 where
   pub period : ℕ
   pub α1 : ℤ
@@ -28,6 +29,7 @@ row period α1 α2 α3 β1 β2 ξ γ φ = record { period = period; α1 = α1; �
 -- Table 2: M up to and including 6.75
 abbrev pub table2 : List Row
 table2 =
+    --  period α1 α2 α3 β1 β2 ξ γ φ
     row 10 (pos 70887) (pos 2058) (pos 589) (pos 29935) (neg 2287) (neg 854) (neg 27) (pos 8) ∷
     row 20 (pos 71157) (pos 2058) (pos 589) (pos 29935) (neg 2287) (neg 854) (neg 27) (pos 8) ∷
     row 30 (pos 72087) (pos 2058) (pos 589) (pos 29935) (neg 2287) (neg 854) (neg 27) (pos 8) ∷
@@ -55,6 +57,7 @@ table2 =
 -- Table 3: M above 6.75
 abbrev pub table3 : List Row
 table3 =
+    --  period α1 α2 α3 β1 β2 ξ γ φ
     row 10 (pos 90138) (neg 794) (pos 589) (pos 29935) (neg 2287) (neg 854) (neg 27) (pos 8) ∷
     row 20 (pos 90408) (neg 794) (pos 589) (pos 29935) (neg 2287) (neg 854) (neg 27) (pos 8) ∷
     row 30 (pos 91338) (neg 794) (pos 589) (pos 29935) (neg 2287) (neg 854) (neg 27) (pos 8) ∷
@@ -90,3 +93,11 @@ takesTable3 magnitude = ltb 675 magnitude
 -- row k of Table 3 where `third`, else of Table 2, counted from 0 at 0.01 s
 unfoldable pub rowAt : Bool → ℕ → Row
 rowAt third k = getD (cond third table3 table2) k noRow
+
+-- "Period 0 uses the row 0.01": the period of the row that a period uses
+abbrev pub ownPeriod : ℕ → ℕ
+ownPeriod period = cond (eqb period 0) 10 period
+
+-- the row of a magnitude and a period
+unfoldable pub rowFor : ℕ → ℕ → Row
+rowFor magnitude period = rowAt (takesTable3 magnitude) (idrissRow period)

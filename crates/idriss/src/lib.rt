@@ -70,7 +70,7 @@ fn distance_term(r: Row, m: u64, rupture_distance: u64) -> logarithm::Ends
     outward::multiple(factor, logarithm::ln(rupture_distance + 1_000, 100))
 }
 
-// −ξ ln V; V counts as 1200 m/s above that.
+// −ξ ln V; a V above 1200 m/s counts as 1200.
 fn site_term(r: Row, velocity: u16) -> logarithm::Ends
     requires { ⌜ RowLimits r × (4_500 ≤ velocity) ⌝ }
     ensures { λ e. ⌜ (e ≡ siteTermOf r velocity) × Sized e 4 31_500_000_001 ⌝ }

@@ -6,7 +6,7 @@ use native.Mathlib.Omega.{arith}
 use borrow.Author.Tests.{eq-eqb}
 use lib.Dec.{T, eqb, eqb→eq}
 use lib.IntN.{pos}
-use Rattle.signed.proofs.Whole.{up, down}
+use Rattle.signed.specs.Whole.{up, down}
 use Rattle.exact.specs.Fraction.{_over_, _<q_, _-q_, _*q_}
 use Rattle.exact.specs.Logarithm.{upperSum}
 use Rattle.exact.specs.Root.{rootValues}

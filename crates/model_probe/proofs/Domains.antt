@@ -43,7 +43,7 @@ idriss-domain s h w = record {
   magnitude-low = w .magnitude-low;
   magnitude-high = w .magnitude-high;
   near = w .distance-high;
-  fast = w .velocity-low;
+  slow = w .velocity-low;
 }
 
 pub second-domain : {k : ℕ} (s : Scenario) → k < 22 → Within booreAtkinson s →

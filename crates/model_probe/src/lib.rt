@@ -68,17 +68,24 @@ pub extern "C" fn probe_idriss(
     table: u8,
     k: usize,
     magnitude: u16,
-    distance: u16,
+    rupture_distance: u16,
     velocity: u16,
     mechanism: u8,
 ) -> ProbedEnds
-    ensures { λ r. ⌜ r ≡ probedIdriss table k magnitude distance velocity mechanism ⌝ }
+    ensures { λ r. ⌜ r ≡ probedIdriss table k magnitude «rupture_distance» velocity mechanism ⌝ }
 {
     if 22 <= k {
         return none();
     }
-    if accepted(1, magnitude, distance, velocity, mechanism, 0) {
-        return tell(idriss::median(table == 3, k, magnitude, distance, velocity, mechanism));
+    if accepted(1, magnitude, rupture_distance, velocity, mechanism, 0) {
+        return tell(idriss::median(
+            table == 3,
+            k,
+            magnitude,
+            rupture_distance,
+            velocity,
+            mechanism,
+        ));
     }
     none()
 }
@@ -99,17 +106,17 @@ pub extern "C" fn probe_idriss_sigma(period: u16, magnitude: u16) -> ProbedEnds
 pub extern "C" fn probe_boore_atkinson(
     k: usize,
     magnitude: u16,
-    distance: u16,
+    projection_distance: u16,
     velocity: u16,
     mechanism: u8,
 ) -> ProbedEnds
-    ensures { λ r. ⌜ r ≡ probedBooreAtkinson k magnitude distance velocity mechanism ⌝ }
+    ensures { λ r. ⌜ r ≡ probedBooreAtkinson k magnitude «projection_distance» velocity mechanism ⌝ }
 {
     if 22 <= k {
         return none();
     }
-    if accepted(2, magnitude, distance, velocity, mechanism, 0) {
-        return tell(boore_atkinson::median(k, magnitude, distance, velocity, mechanism));
+    if accepted(2, magnitude, projection_distance, velocity, mechanism, 0) {
+        return tell(boore_atkinson::median(k, magnitude, projection_distance, velocity, mechanism));
     }
     none()
 }

@@ -13,13 +13,13 @@ use Rattle.exact.specs.Formula.{Formula, stated, ln, root, _⊕_, _⊖_, _⊗_,
 use Rattle.exact.proofs.AlgebraLaws.{≈q-trans}
 use Rattle.exact.proofs.Tests.{and-left, and-right, every, every-at}
 use Rattle.scenario.specs.Refusal.{refusalBy, refusalOf, idrissRow, booreAtkinsonRow}
-use Rattle.idriss.specs.Tables.{takesTable3, rowAt}
+use Rattle.idriss.specs.Tables.{takesTable3, rowAt, rowFor}
 use Rattle.idriss.specs.Median.{alphaPart, betaFactor}
-use Rattle.boore_atkinson.specs.Tables.{rowAt as secondRowAt}
+use Rattle.boore_atkinson.specs.Tables.{rowAt as secondRowAt, rowFor as secondRowFor}
 use Rattle.boore_atkinson.specs.SiteTerm.{bnl}
 use Rattle.record.specs.Layout.{sizeOf, numbersOf, absentWritten}
 use Rattle.record.specs.Outcome.{readingNumber, readingValues, scenarioIn, lengthBy, mapRefusal, readRefusal, readOf}
-use Rattle.values.specs.Table.{Check, pairAt, atEvery, fraction, reads, HasEnds, Holds, AllHold, values, idrissAt, siteAt}
+use Rattle.values.specs.Table.{Check, pairAt, atEvery, fraction, reads, HasEnds, Holds, AllHold, values}
 use Rattle.values.proofs.Constant.{same, same-is, merged, zeroOver, positive, constant, Found, found}
 
 -- ---- the test of a row
@@ -113,7 +113,7 @@ holds (reads s xs) t =
 -- ---- all of them
 
 all-pass : T (every (λ k c. passes c) 0 values)
-unfolding passes matches constant merged zeroOver positive idrissAt siteAt rowAt takesTable3 idrissRow booreAtkinsonRow secondRowAt bnl
+unfolding passes matches constant merged zeroOver positive rowFor secondRowFor rowAt takesTable3 idrissRow booreAtkinsonRow secondRowAt bnl
     alphaPart betaFactor _-q_ _*q_ sound same sameList eval lnPair lowerSum upperSum harmonic rootPair rootValues wholeRoot greatest leQ
     zeroQ negQ _+q_ _over_ readOf readRefusal mapRefusal scenarioIn lengthBy numbersOf sizeOf absentWritten refusalOf
     refusalBy

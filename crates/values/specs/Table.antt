@@ -6,11 +6,9 @@ use lib.IntN.{ℤ, pos, negℤ}
 use lib.ListN.{length, getD}
 use Rattle.exact.specs.Fraction.{Fraction, _over_, zeroQ, _≈q_}
 use Rattle.exact.specs.Pair.{Pair}
-use Rattle.scenario.specs.Refusal.{idrissRow, booreAtkinsonRow}
-use Rattle.idriss.specs.Tables.{Row, takesTable3, rowAt}
+use Rattle.idriss.specs.Tables as idriss
 use Rattle.idriss.specs.Median.{alphaPart, betaFactor}
-use Rattle.boore_atkinson.specs.Tables as tables
-use Rattle.boore_atkinson.specs.Tables.{Site}
+use Rattle.boore_atkinson.specs.Tables as booreAtkinson
 use Rattle.boore_atkinson.specs.SiteTerm.{bnl}
 use Rattle.record.specs.Outcome.{readingNumber, readingValues, readOf}
 use Rattle.exact.specs.Formula.{Formula, ln, root, eval, Defined}
@@ -41,14 +39,6 @@ Holds (reads s xs) = (readingNumber (readOf s) ≡ 0) × (readingValues (readOf 
 abbrev neg : ℕ → ℤ
 neg n = negℤ (pos n)
 
--- Idriss's row of a period, in thousandths of a second, by the table that a magnitude, in hundredths, takes
-unfoldable pub idrissAt : ℕ → ℕ → Row
-idrissAt T M = rowAt (takesTable3 M) (idrissRow T)
-
--- Boore-Atkinson's row of a period in Table 3
-unfoldable pub siteAt : ℕ → Site
-siteAt T = tables.rowAt (booreAtkinsonRow T) .site
-
 -- the rows, in document 01's order
 abbrev pub values : List Check
 values =
@@ -59,14 +49,14 @@ values =
     -- "the root of 18225 at n = 1 has 135 and 136"
     pairAt 1 (root 18_225) (pos 135 over 1) (pos 136 over 1) ∷
     -- "Idriss 0.01 s, M 7.00: α part 8.590525, β factor 1.3926; M 6.75: 8.65823125 and 1.449775"
-    fraction (alphaPart (idrissAt 10 700) 700) (pos 8_590_525 over 1_000_000) ∷
-    fraction (betaFactor (idrissAt 10 700) 700) (pos 13_926 over 10_000) ∷
-    fraction (alphaPart (idrissAt 10 675) 675) (pos 865_823_125 over 100_000_000) ∷
-    fraction (betaFactor (idrissAt 10 675) 675) (pos 1_449_775 over 1_000_000) ∷
+    fraction (alphaPart (idriss.rowFor 700 10) 700) (pos 8_590_525 over 1_000_000) ∷
+    fraction (betaFactor (idriss.rowFor 700 10) 700) (pos 13_926 over 10_000) ∷
+    fraction (alphaPart (idriss.rowFor 675 10) 675) (pos 865_823_125 over 100_000_000) ∷
+    fraction (betaFactor (idriss.rowFor 675 10) 675) (pos 1_449_775 over 1_000_000) ∷
     -- "bnl at 0.2 s: −0.52 at 180 m/s, −0.19 at 300, 0 at 760"
-    atEvery (bnl (siteAt 200) 1_800) (neg 52 over 100) ∷
-    atEvery (bnl (siteAt 200) 3_000) (neg 19 over 100) ∷
-    atEvery (bnl (siteAt 200) 7_600) (pos 0 over 1) ∷
+    atEvery (bnl (booreAtkinson.rowFor 200 .site) 1_800) (neg 52 over 100) ∷
+    atEvery (bnl (booreAtkinson.rowFor 200 .site) 3_000) (neg 19 over 100) ∷
+    atEvery (bnl (booreAtkinson.rowFor 200 .site) 7_600) (pos 0 over 1) ∷
     -- "bytes 37 01 BC 02 E8 03 02 4B 00 are Idriss, M 7.00, 10 km, 760 m/s, code 2, 0.075 s"
     reads (0x37 ∷ 0x01 ∷ 0xBC ∷ 0x02 ∷ 0xE8 ∷ 0x03 ∷ 0x02 ∷ 0x4B ∷ 0x00 ∷ [])
     (1 ∷ 700 ∷ 1_000 ∷ 7_600 ∷ 2 ∷ 75 ∷ 9 ∷ []) ∷

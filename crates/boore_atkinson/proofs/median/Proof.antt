@@ -12,11 +12,11 @@ use Rattle.boore_atkinson.proofs.median.Tie as tie
 distance-at-requires : tie.Need-distance-at-requires
 distance-at-requires c κs = search needs
 
-cast-slant-distance : tie.Need-cast-slant-distance
-cast-slant-distance c = search needs
+cast-effective-distance : tie.Need-cast-effective-distance
+cast-effective-distance c = search needs
 
-slant-distance-requires : tie.Need-slant-distance-requires
-slant-distance-requires c κs = search needs
+effective-distance-requires : tie.Need-effective-distance-requires
+effective-distance-requires c κs = search needs
 
 magnitude-at-requires : tie.Need-magnitude-at-requires
 magnitude-at-requires c κs = search needs
@@ -56,15 +56,15 @@ returns c =
     let sum = c .before .plus2 .ensures ∙ ap (λ x. plusOf x (n .result)) (c .before .before .plus .ensures) in
     c .ends .ensures ∙ ap endsOf sum ∙
     median-is (rowAt (a .k)) (a .magnitude) (a .projection-distance) (a .velocity) (a .mechanism) (c .before .before .before .before .before .before .before .before .before .before .before .distance-at .ensures .0) (c .before .before .before .before .before .before .before .before .magnitude-at .ensures .0)
-    (c .before .before .before .before .before .before .site-at .ensures .0) (c .before .before .before .before .before .before .before .before .before .slant-distance .ensures .0) (c .before .before .before .before .before .before .before .rock .ensures .0) (c .before .before .before .before .before .linear .ensures .0) (c .before .before .before .before .below .ensures .0) (n .ensures .0)
+    (c .before .before .before .before .before .before .site-at .ensures .0) (c .before .before .before .before .before .before .before .before .before .effective-distance .ensures .0) (c .before .before .before .before .before .before .before .rock .ensures .0) (c .before .before .before .before .before .linear .ensures .0) (c .before .before .before .before .below .ensures .0) (n .ensures .0)
 
 pub median-spec : {M : Type 1} → statement M
 median-spec =
     tie.close
     (tie.spec
     distance-at-requires
-    cast-slant-distance
-    slant-distance-requires
+    cast-effective-distance
+    effective-distance-requires
     magnitude-at-requires
     rock-requires
     site-at-requires

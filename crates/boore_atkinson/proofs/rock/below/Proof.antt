@@ -10,11 +10,11 @@ use Rattle.boore_atkinson.proofs.rock.below.Tie as tie
 pga-distance-requires : tie.Need-pga-distance-requires
 pga-distance-requires c κs = search needs
 
-cast-slant-distance : tie.Need-cast-slant-distance
-cast-slant-distance c = search needs
+cast-effective-distance : tie.Need-cast-effective-distance
+cast-effective-distance c = search needs
 
-slant-distance-requires : tie.Need-slant-distance-requires
-slant-distance-requires c κs = search needs
+effective-distance-requires : tie.Need-effective-distance-requires
+effective-distance-requires c κs = search needs
 
 pga-magnitude-requires : tie.Need-pga-magnitude-requires
 pga-magnitude-requires c κs = search needs
@@ -31,16 +31,16 @@ sub-t9 : tie.Need-sub-t9
 sub-t9 c =
     let a = c .before .before .before .before .before .before .before .args in
     let r = c .before .before .rock in
-    let o : r .result .up .low ≤ r .result .down .low =
+    let o : r .result .gain .low ≤ r .result .loss .low =
     rw (r .ensures .0, c .before .before .before .pga-magnitude .ensures .0) (pga-order (a .m) (a .mechanism) _ (c .before .before .before .before .before .before .pga-distance .ensures .1)) in
-    omega (arith, o, r .ensures .1 .down .order)
+    omega (arith, o, r .ensures .1 .loss .order)
 
 returns : tie.Need-returns
 returns c =
     let a = c .before .before .before .before .before .before .before .args in
     let p = c .before .before .before .before .before .before .before .pre in
     let e =
-    below-is (a .m) (a .projection-distance) (a .mechanism) (c .before .before .before .before .before .before .pga-distance .ensures .0) (c .before .before .before .pga-magnitude .ensures .0) (c .before .before .before .before .slant-distance .ensures .0)
+    below-is (a .m) (a .projection-distance) (a .mechanism) (c .before .before .before .before .before .before .pga-distance .ensures .0) (c .before .before .before .pga-magnitude .ensures .0) (c .before .before .before .before .effective-distance .ensures .0)
     (c .before .before .rock .ensures .0) in
     (e, rw e (below-sized (a .mechanism) (p .1) (p .2)))
 
@@ -49,8 +49,8 @@ below-spec =
     tie.close
     (tie.spec
     pga-distance-requires
-    cast-slant-distance
-    slant-distance-requires
+    cast-effective-distance
+    effective-distance-requires
     pga-magnitude-requires
     rock-requires
     sub-t7

@@ -2,7 +2,7 @@
 use native.Mathlib.Omega.{arith}
 use borrow.Author.Needs.{needs}
 use Rattle.outward.proofs.Laws.{multiple-takes, sum-takes}
-use Rattle.boore_atkinson.proofs.RockSizes.{near-sized, far-sized, fall-sized}
+use Rattle.boore_atkinson.proofs.RockSizes.{spreading-sized, anelastic-sized, fall-sized}
 use Rattle.boore_atkinson.proofs.Sums.{fall-is}
 use Rattle.boore_atkinson.proofs.rock.fall.Statement.{statement}
 use Rattle.boore_atkinson.proofs.rock.fall.Tie as tie
@@ -27,7 +27,7 @@ sum-requires : tie.Need-sum-requires
 sum-requires c κs =
     let p = c .before .before .before .before .pre in
     rw (c .before .before .multiple .ensures, c .multiple2 .ensures, c .before .before .before .spread .ensures .0)
-    (sum-takes (near-sized (p .0) (p .2) (p .3)) (far-sized (p .0) (p .2) (p .3)) (omega arith))
+    (sum-takes (spreading-sized (p .0) (p .2) (p .3)) (anelastic-sized (p .0) (p .2) (p .3)) (omega arith))
 
 returns : tie.Need-returns
 returns c =

@@ -11,14 +11,14 @@ fall-requires c κs = search needs
 magnitude-term-requires : tie.Need-magnitude-term-requires
 magnitude-term-requires c κs = let p = c .before .pre in (p .1, magnitude-bounds (p .1) (p .3))
 
-cast-up : tie.Need-cast-up
-cast-up c = search needs
+cast-gain : tie.Need-cast-gain
+cast-gain c = search needs
 
-mul-up : tie.Need-mul-up
-mul-up c = search needs
+mul-gain : tie.Need-mul-gain
+mul-gain c = search needs
 
-add-up : tie.Need-add-up
-add-up c = search needs
+add-gain : tie.Need-add-gain
+add-gain c = search needs
 
 add-t9 : tie.Need-add-t9
 add-t9 c = search needs
@@ -36,4 +36,4 @@ returns c =
 pub rock-spec : {M : Type 1} → statement M
 rock-spec =
     tie.close
-    (tie.spec fall-requires magnitude-term-requires cast-up mul-up add-up add-t9 add-t10 returns)
+    (tie.spec fall-requires magnitude-term-requires cast-gain mul-gain add-gain add-t9 add-t10 returns)

@@ -1,7 +1,7 @@
 -- `table::magnitude_at` meets its contract.
 use borrow.Author.Needs.{needs}
 use lib.ListN.{List·getD-map}
-use Rattle.signed.proofs.Whole.{up, down}
+use Rattle.signed.specs.Whole.{up, down}
 use Rattle.boore_atkinson.specs.Tables.{table7, rowAt}
 use Rattle.boore_atkinson.specs.Rows.{magnitudeParts}
 use Rattle.boore_atkinson.proofs.Rows.{magnitude-limits}

@@ -1,7 +1,7 @@
 -- `table::pga_distance` meets its contract.
 use mathlib.Core.Path.{refl}
 use native.Mathlib.Omega.{arith}
-use Rattle.signed.proofs.Whole.{up, down}
+use Rattle.signed.specs.Whole.{up, down}
 use Rattle.boore_atkinson.specs.Tables.{rowAt}
 use Rattle.boore_atkinson.proofs.Rows.{distance-limits}
 use Rattle.boore_atkinson.proofs.table.pga_distance.Statement.{statement}

@@ -1,7 +1,7 @@
 -- `table::site_at` meets its contract.
 use borrow.Author.Needs.{needs}
 use lib.ListN.{List·getD-map}
-use Rattle.signed.proofs.Whole.{up, down}
+use Rattle.signed.specs.Whole.{up, down}
 use Rattle.boore_atkinson.specs.Tables.{table3, rowAt}
 use Rattle.boore_atkinson.specs.Rows.{siteParts}
 use Rattle.boore_atkinson.proofs.Rows.{site-limits}

@@ -3,7 +3,7 @@ use mathlib.Core.Path.{sym}
 use mathlib.Core.Bool.{true, false}
 use lib.ListN.{List·getD-map}
 use borrow.Author.Needs.{needs}
-use Rattle.signed.proofs.Whole.{up, down}
+use Rattle.signed.specs.Whole.{up, down}
 use Rattle.idriss.specs.Tables.{table2, table3, noRow, rowAt}
 use Rattle.idriss.specs.Evaluation.{parts}
 use Rattle.idriss.proofs.Rows.{row-limits}

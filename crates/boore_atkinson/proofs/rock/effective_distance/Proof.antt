@@ -1,10 +1,10 @@
--- `rock::slant_distance` meets its contract.
+-- `rock::effective_distance` meets its contract.
 use native.Mathlib.Omega.{arith}
 use Rattle.logarithm.proofs.Laws.{rootOf-small}
-use Rattle.boore_atkinson.proofs.RockSizes.{squares, slant-domain, slant-sized}
-use Rattle.boore_atkinson.proofs.Sums.{slant-is}
-use Rattle.boore_atkinson.proofs.rock.slant_distance.Statement.{statement}
-use Rattle.boore_atkinson.proofs.rock.slant_distance.Tie as tie
+use Rattle.boore_atkinson.proofs.RockSizes.{squares, effective-domain, effective-sized}
+use Rattle.boore_atkinson.proofs.Sums.{effective-is}
+use Rattle.boore_atkinson.proofs.rock.effective_distance.Statement.{statement}
+use Rattle.boore_atkinson.proofs.rock.effective_distance.Tie as tie
 
 mul-x : tie.Need-mul-x
 mul-x c = record { fits = omega (arith, squares (c .pre .0) (c .pre .1) (c .pre .2) .distance) }
@@ -17,42 +17,42 @@ add-x c =
     let s = squares (c .pre .0) (c .pre .1) (c .pre .2) in record { fits = omega (arith, s .distance, s .depth) }
 
 root-requires : tie.Need-root-requires
-root-requires c κs = slant-domain (squares (c .pre .0) (c .pre .1) (c .pre .2)) .small
+root-requires c κs = effective-domain (squares (c .pre .0) (c .pre .1) (c .pre .2)) .small
 
 ln-requires : tie.Need-ln-requires
-ln-requires c κs = slant-domain (squares (c .before .pre .0) (c .before .pre .1) (c .before .pre .2))
+ln-requires c κs = effective-domain (squares (c .before .pre .0) (c .before .pre .1) (c .before .pre .2))
 
 mul-t5 : tie.Need-mul-t5
 mul-t5 c =
     let s = squares (c .before .before .pre .0) (c .before .before .pre .1) (c .before .before .pre .2) in
-    let k = rootOf-small (slant-domain s .small) in
+    let k = rootOf-small (effective-domain s .small) in
     record { fits = omega (arith, c .before .root .ensures, k) }
 
 add-t8 : tie.Need-add-t8
 add-t8 c =
     let s = squares (c .before .before .pre .0) (c .before .before .pre .1) (c .before .before .pre .2) in
-    let k = rootOf-small (slant-domain s .small) in
+    let k = rootOf-small (effective-domain s .small) in
     record { fits = omega (arith, c .before .root .ensures, k) }
 
 mul-t9 : tie.Need-mul-t9
 mul-t9 c =
     let s = squares (c .before .before .pre .0) (c .before .before .pre .1) (c .before .before .pre .2) in
-    let k = rootOf-small (slant-domain s .small) in
+    let k = rootOf-small (effective-domain s .small) in
     record { fits = omega (arith, c .before .root .ensures, k) }
 
 add-t11 : tie.Need-add-t11
 add-t11 c =
     let s = squares (c .before .before .pre .0) (c .before .before .pre .1) (c .before .before .pre .2) in
-    let k = rootOf-small (slant-domain s .small) in
+    let k = rootOf-small (effective-domain s .small) in
     record { fits = omega (arith, c .before .root .ensures, k) }
 
 returns : tie.Need-returns
 returns c =
     let a = c .before .before .args in
-    let e = slant-is (a .projection-distance) (a .h) (c .before .root .ensures) (c .ln .ensures) in
-    (e, rw e (slant-sized (squares (c .before .before .pre .0) (c .before .before .pre .1) (c .before .before .pre .2))))
+    let e = effective-is (a .projection-distance) (a .h) (c .before .root .ensures) (c .ln .ensures) in
+    (e, rw e (effective-sized (squares (c .before .before .pre .0) (c .before .before .pre .1) (c .before .before .pre .2))))
 
-pub slant-distance-spec : {M : Type 1} → statement M
-slant-distance-spec =
+pub effective-distance-spec : {M : Type 1} → statement M
+effective-distance-spec =
     tie.close
     (tie.spec mul-x mul-x-2 add-x root-requires ln-requires mul-t5 add-t8 mul-t9 add-t11 returns)
