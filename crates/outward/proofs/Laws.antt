@@ -49,10 +49,10 @@ up-to x b s h few = go (x / s) (div-mul-le-self x s)
     go : (p : ℕ) → p * s ≤ x → p + 1 ≤ b + 1
     go p a = let t : p < b + 1 = lt-of-mul-lt-mul-right s {m = p} {n = b + 1} (omega arith) in omega (arith, t)
 
-in-order : (x y s : ℕ) → 1 ≤ s → x ≤ y → x / s ≤ y / s + 1
+in-order : (x y s : ℕ) → 1 ≤ s → x ≤ y → x / s ≤ y / s
 in-order x y s h le = go (x / s) (y / s) (div-mul-le-self x s) (lt-div-mul-add {a = y} {b = s} h)
   where
-    go : (p q : ℕ) → p * s ≤ x → y < q * s + s → p ≤ q + 1
+    go : (p q : ℕ) → p * s ≤ x → y < q * s + s → p ≤ q
     go p q a b = let t : p < q + 1 = lt-of-mul-lt-mul-right s {m = p} {n = q + 1} (omega arith) in omega (arith, t)
 
 module _ (c : ℕ) {e : Ends} {w b : ℕ} (z : Sized e w b) where
@@ -63,9 +63,9 @@ module _ (c : ℕ) {e : Ends} {w b : ℕ} (z : Sized e w b) where
   pub multiple-sized : (k m : ℕ) → c * w ≤ k * scale → c * b ≤ m * scale → Sized (multipleOf c e) (k + 1) (m + 1)
   unfolding multipleOf
   multiple-sized k m hk hm = record {
-    order = in-order (c * e .low) (c * e .high) scale (omega arith) (mul-le-mul-left c (z .order));
-    narrow = near (c * e .low) (c * e .high) (c * w) k scale (omega arith) (omega (arith, mul-le-mul-left c (z .narrow))) hk;
-    small = up-to (c * e .high) m scale (omega arith) (omega (arith, mul-le-mul-left c (z .small)));
+    order = omega (arith, in-order (c * e .low) (c * e .high) scale (omega arith) (mul-le-mul-left c (z .order)));
+    narrow = omega (arith, near (c * e .low) (c * e .high) (c * w) k scale (omega arith) (omega (arith, mul-le-mul-left c (z .narrow))) hk);
+    small = omega (arith, up-to (c * e .high) m scale (omega arith) (omega (arith, mul-le-mul-left c (z .small))));
   }
 
 -- a b grows by A v + B w at most where a grows by w to A at most, and b by v to B at most
@@ -81,11 +81,9 @@ module _ {x y : Ends} {w A v B : ℕ} (p : Sized x w A) (q : Sized y v B) where
       Sized (productOf x y) (k + 1) (m + 1)
   unfolding productOf
   product-sized k m hk hm = record {
-    order = in-order (x .low * y .low) (x .high * y .high) 1_000_000_000 (omega arith) (mul-le-mul (p .order) (q .order));
-    narrow =
-        near (x .low * y .low) (x .high * y .high) (A * v + B * w) k 1_000_000_000 (omega arith)
-        (apart (x .low) (x .high) (y .low) (y .high) A B w v (p .narrow) (q .narrow) (p .small) (q .small) (q .order)) hk;
-    small = up-to (x .high * y .high) m 1_000_000_000 (omega arith) (omega (arith, mul-le-mul (p .small) (q .small)));
+    order = omega (arith, in-order (x .low * y .low) (x .high * y .high) 1_000_000_000 (omega arith) (mul-le-mul (p .order) (q .order)));
+    narrow = omega (arith, near (x .low * y .low) (x .high * y .high) (A * v + B * w) k 1_000_000_000 (omega arith) (apart (x .low) (x .high) (y .low) (y .high) A B w v (p .narrow) (q .narrow) (p .small) (q .small) (q .order)) hk);
+    small = omega (arith, up-to (x .high * y .high) m 1_000_000_000 (omega arith) (omega (arith, mul-le-mul (p .small) (q .small))));
   }
 
 -- e's low end is at least l
@@ -173,7 +171,7 @@ module _ (u s k : ℕ) (same : u * scale ≡ k * s) where
       let p = low-is (e .low) in
       let q = high-is (e .high) in
       let o = mul-le-mul-left u (natural-order h) in
-      lies-multiple i h (k * e .low / scale) 0 (k * e .high / scale + 1) 0 (omega (arith, p)) (omega (arith, p, o))
+      lies-multiple i h _ _ _ _ (omega (arith, p)) (omega (arith, p, o))
       (omega (arith, q, o)) (omega (arith, q))
 
   pub minus-held : {c x : Fraction} {e : Ends} → Held x e → Is c 0 u s → HeldBelow (c *q x) (multipleOf k e)
@@ -182,7 +180,7 @@ module _ (u s k : ℕ) (same : u * scale ≡ k * s) where
       let p = low-is (e .low) in
       let q = high-is (e .high) in
       let o = mul-le-mul-left u (natural-order h) in
-      lies-multiple i h 0 (k * e .high / scale + 1) 0 (k * e .low / scale) (omega (arith, q, o)) (omega (arith, q))
+      lies-multiple i h _ _ _ _ (omega (arith, q, o)) (omega (arith, q))
       (omega (arith, p)) (omega (arith, p, o))
 
   pub multiple-below : {c x : Fraction} {e : Ends} → HeldBelow x e → Is c u 0 s → HeldBelow (c *q x) (multipleOf k e)
@@ -191,7 +189,7 @@ module _ (u s k : ℕ) (same : u * scale ≡ k * s) where
       let p = low-is (e .low) in
       let q = high-is (e .high) in
       let o = mul-le-mul-left u (below-order h) in
-      lies-multiple i h 0 (k * e .high / scale + 1) 0 (k * e .low / scale) (omega (arith, q)) (omega (arith, q, o))
+      lies-multiple i h _ _ _ _ (omega (arith, q)) (omega (arith, q, o))
       (omega (arith, p, o)) (omega (arith, p))
 
   pub minus-below : {c x : Fraction} {e : Ends} → HeldBelow x e → Is c 0 u s → Held (c *q x) (multipleOf k e)
@@ -200,7 +198,7 @@ module _ (u s k : ℕ) (same : u * scale ≡ k * s) where
       let p = low-is (e .low) in
       let q = high-is (e .high) in
       let o = mul-le-mul-left u (below-order h) in
-      lies-multiple i h (k * e .low / scale) 0 (k * e .high / scale + 1) 0 (omega (arith, p, o)) (omega (arith, p))
+      lies-multiple i h _ _ _ _ (omega (arith, p, o)) (omega (arith, p))
       (omega (arith, q)) (omega (arith, q, o))
 
 -- both ends of x times both ends of y
@@ -224,8 +222,9 @@ module _ {x y : Fraction} {a b : Ends} (h : Held x a) (k : Held y b) where
 
   pub product-held : Held (x *q y) (productOf a b)
   unfolding productOf
-  product-held = go (a .low * b .low / 1_000_000_000) (a .high * b .high / 1_000_000_000 + 1)
-      (div-mul-le-self (a .low * b .low) 1_000_000_000) (next (a .high * b .high) 1_000_000_000 (omega arith))
+  product-held =
+      go _ _ (omega (arith, div-mul-le-self (a .low * b .low) 1_000_000_000))
+      (omega (arith, next (a .high * b .high) 1_000_000_000 (omega arith)))
     where
       go : (l u : ℕ) → l * 1_000_000_000 ≤ a .low * b .low → a .high * b .high ≤ u * 1_000_000_000 → Lies (x *q y) l 0 u 0
       go l u p q =

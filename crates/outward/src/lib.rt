@@ -41,10 +41,10 @@ pub fn sum(a: Ends, b: Ends) -> Ends
 pub fn lesser(a: u64, b: u64) -> u64
     ensures { λ r. ⌜ r ≡ min a b ⌝ }
 {
-    if a < b {
-        return a;
+    if b < a {
+        return b;
     }
-    b
+    a
 }
 
 // The greater of two.
