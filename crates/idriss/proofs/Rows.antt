@@ -1,12 +1,13 @@
 -- Signs and sizes of the coefficients: one test over all rows of both tables. And the row for a period is
 -- the one that the paper prints for it.
-use mathlib.Core.Path.{_≡_}
+use mathlib.Core.Path.{_≡_, refl}
 use mathlib.Core.Bool.{Bool, true, false, cond}
-use mathlib.Core.List.{List, [], _∷_}
+use mathlib.Core.List.{List, [], _∷_, _++_}
 use Prim.Native.Nat.{ℕ, _+_, _*_, _<_}
+use native.Mathlib.Nat.{suc-add, zero-add}
 use native.Mathlib.Omega.{arith}
 use lib.Dec.{T, eqb, eqb→eq}
-use lib.ListN.{getD}
+use lib.ListN.{getD, length, List·getD-append}
 use Rattle.signed.specs.Whole.{up, down}
 use Rattle.exact.proofs.Tests.{every, every-at, allLe, AllLe, all-le}
 use Rattle.scenario.specs.Lists.{among}
@@ -75,3 +76,17 @@ pub row-printed : (magnitude period : ℕ) → among (0 ∷ idriss .periods) per
 unfolding rowFor
 row-printed magnitude T e =
     eqb→eq _ _ (all-at (is-printed (takesTable3 magnitude)) (0 ∷ idriss .periods) T (all-printed (takesTable3 magnitude)) e)
+
+-- ---- the code has both tables in one array, Table 3 after Table 2
+
+after : {A : Type 0} (none : A) (xs ys : List A) (k : ℕ) → getD (xs ++ ys) (length xs + k) none ≡ getD ys k none
+after none [] ys k = rw zero-add refl
+after none (x ∷ xs) ys k = rw (suc-add (length xs) k) (after none xs ys k)
+
+pub table-2 : (k : ℕ) → k < 22 → getD (table2 ++ table3) k noRow ≡ rowAt false k
+unfolding rowAt
+table-2 k h = List·getD-append table2 table3 noRow k h
+
+pub table-3 : (k : ℕ) → getD (table2 ++ table3) (22 + k) noRow ≡ rowAt true k
+unfolding rowAt
+table-3 k = after noRow table2 table3 k

@@ -19,8 +19,8 @@ pub struct Row(
     pub u32,
 );
 
-// M up to and including 6.75.
-const TABLE_2: [Row; 22] = [
+// Table 2, M up to and including 6.75, and after it Table 3, M above.
+const TABLES: [Row; 44] = [
     Row(70887, 0, 2058, 0, 589, 0, 29935, 2287, 854, 27, 8),
     Row(71157, 0, 2058, 0, 589, 0, 29935, 2287, 854, 27, 8),
     Row(72087, 0, 2058, 0, 589, 0, 29935, 2287, 854, 27, 8),
@@ -43,10 +43,6 @@ const TABLE_2: [Row; 22] = [
     Row(0, 43570, 11209, 0, 0, 202, 25468, 2541, 629, 59, 0),
     Row(0, 78275, 14016, 0, 0, 219, 24478, 2593, 531, 57, 0),
     Row(0, 92857, 15574, 0, 0, 35, 23922, 2586, 586, 61, 0),
-];
-
-// M above 6.75.
-const TABLE_3: [Row; 22] = [
     Row(90138, 0, 0, 794, 589, 0, 29935, 2287, 854, 27, 8),
     Row(90408, 0, 0, 794, 589, 0, 29935, 2287, 854, 27, 8),
     Row(91338, 0, 0, 794, 589, 0, 29935, 2287, 854, 27, 8),
@@ -77,7 +73,7 @@ pub fn row_at(third: bool, k: usize) -> Row
     ensures { λ r. ⌜ (r ≡ parts (rowAt third k)) × RowLimits r ⌝ }
 {
     if third {
-        return TABLE_3[k];
+        return TABLES[22 + k];
     }
-    TABLE_2[k]
+    TABLES[k]
 }
