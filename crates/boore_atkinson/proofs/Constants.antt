@@ -1,15 +1,15 @@
--- The constant pairs hold what they stand for: the logarithm computes the four logarithms and those that the others are made
--- of, and each quotient is compared by a product.
+-- The constant pairs hold what they stand for: the logarithm computes the four logarithms and those that the others are
+-- made of, and each quotient is compared by a product.
 use mathlib.Core.Path.{_≡_, refl}
-use Prim.Native.Nat.{ℕ, _+_, _*_, _≤_, _<_}
+use Prim.Native.Nat.{ℕ, _*_, _≤_, _<_}
 use native.Mathlib.Omega.{arith}
 use lib.Count.{leadingZeros}
 use lib.IntN.{pos, negℤ}
 use Rattle.signed.specs.Whole.{up, down}
-use Rattle.exact.specs.Fraction.{Fraction, _over_, _-q_, _*q_, _/q_, recipQ}
+use Rattle.exact.specs.Fraction.{_over_, _-q_, _*q_, _/q_, recipQ}
 use Rattle.exact.proofs.FractionLaws.{over-Is}
 use Rattle.exact.proofs.Points.{Points}
-use Rattle.exact.proofs.UnitLaws.{Lies, lies-natural, lies-negated, lies-wider, lies-difference, lies-multiple}
+use Rattle.exact.proofs.UnitLaws.{lies-natural, lies-negated, lies-wider, lies-difference, lies-multiple}
 use Rattle.logarithm.specs.declared.Ends.{Ends}
 use Rattle.logarithm.specs.Tables.{coarseAt, fineAt}
 use Rattle.logarithm.specs.Promise.{LnDomain}
@@ -84,12 +84,14 @@ module _ {σ : Points} (known : Known σ) where
 
   pub slow-held : Held (recipQ (σ .lnAt 3_000 1_800)) overSlow
   slow-held =
-      recip-held (at-computed (within (omega arith) (omega arith) (omega arith)) (computed .slow)) (omega arith) overSlow
+      recip-held (at-computed (within (omega arith) (omega arith) (omega arith)) (computed .slow))
+      (omega arith) overSlow
       (omega arith) (omega arith)
 
   pub fast-held : Held (recipQ (σ .lnAt 7_600 3_000)) overFast
   fast-held =
-      recip-held (at-computed (within (omega arith) (omega arith) (omega arith)) (computed .fast)) (omega arith) overFast
+      recip-held (at-computed (within (omega arith) (omega arith) (omega arith)) (computed .fast))
+      (omega arith) overFast
       (omega arith) (omega arith)
 
   -- x and ln 1.5
@@ -113,7 +115,8 @@ module _ {σ : Points} (known : Known σ) where
   top-c =
       lies-wider
       (lies-difference
-      (lies-multiple (over-Is (pos 3) 1 (omega arith)) half-held 1_216_395_324 0 1_216_395_327 0 (omega arith) (omega arith) (omega arith) (omega arith))
+      (lies-multiple (over-Is (pos 3) 1 (omega arith)) half-held 1_216_395_324 0 1_216_395_327 0 (omega arith)
+      (omega arith) (omega arith) (omega arith))
       three-held) 117_783_035 0 117_783_039 0 (omega arith) (omega arith)
 
   top-d : Held (negℤ (pos 1) over 1 *q (pos 2 over 1 *q σ .lnAt 15 10 -q σ .lnAt 3 1)) (pair 287_682_070 287_682_073)
@@ -122,7 +125,8 @@ module _ {σ : Points} (known : Known σ) where
       let twice =
       lies-multiple (over-Is (pos 2) 1 (omega arith)) half-held 810_930_216 0 810_930_218 0 (omega arith) (omega arith)
       (omega arith) (omega arith) in
-      lies-multiple (over-Is (negℤ (pos 1)) 1 (omega arith)) (lies-difference twice three-held) 287_682_070 0 287_682_073 0
+      lies-multiple (over-Is (negℤ (pos 1)) 1 (omega arith))
+      (lies-difference twice three-held) 287_682_070 0 287_682_073 0
       (omega arith) (omega arith) (omega arith) (omega arith)
 
   -- c and d over the slope
@@ -133,7 +137,8 @@ module _ {σ : Points} (known : Known σ) where
       (recip-held square-held (omega arith) (pair 828_535_448 828_535_451) (omega arith) (omega arith))
 
   pub d-held :
-      Held (negℤ (pos 1) over 1 *q (pos 2 over 1 *q σ .lnAt 15 10 -q σ .lnAt 3 1) /q (σ .lnAt 3 1 *q σ .lnAt 3 1 *q σ .lnAt 3 1)) dOver
+      Held (negℤ (pos 1) over 1 *q (pos 2 over 1 *q σ .lnAt 15 10 -q σ .lnAt 3 1) /q
+      (σ .lnAt 3 1 *q σ .lnAt 3 1 *q σ .lnAt 3 1)) dOver
   unfolding _/q_ productOf
   d-held =
       product-held top-d

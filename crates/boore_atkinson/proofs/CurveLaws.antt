@@ -9,17 +9,17 @@ use lib.Dec.{leb, ltb}
 use lib.IntN.{pos, negℤ, subℕ}
 use Rattle.exact.specs.Fraction.{Fraction, _over_, leQ, _≤q_, _<q_, _≈q_, zeroQ, _+q_, negQ, _-q_, _*q_, _/q_, recipQ}
 use Rattle.exact.specs.Formula.{Formula, units}
-use Rattle.exact.proofs.FractionLaws.{is-self, zero-Is, add-Is, neg-Is, le-as, le-of, lt-as, lt-of, ≤q-trans, <q-≤q, ≤q-<q-trans, <q-≤q-trans, ≈q-sym}
+use Rattle.exact.proofs.FractionLaws.{is-self, zero-Is, add-Is, neg-Is, le-as, le-of, lt-as, ≤q-trans, <q-≤q, ≤q-<q-trans, <q-≤q-trans, ≈q-sym}
 use Rattle.exact.proofs.AlgebraLaws.{≈q-trans, add-cong, mul-cong-left, mul-cong-right, mul-assoc, mul-add, mul-swap, mul-sub, neg-swap, neg-twice, add-zero, add-cancel, ≈q-refl}
 use Rattle.exact.proofs.Points.{Points, value}
 use Rattle.exact.proofs.UnitLaws.{Lies, units-Is, lies-negated, lies-same, lies-wider, lies-stated, lies-sum, lies-difference}
 use Rattle.logarithm.specs.declared.Ends.{Ends}
 use Rattle.logarithm.proofs.Enclosure.{Known}
-use Rattle.outward.specs.Evaluation.{productOf, sumOf, spanOf}
+use Rattle.outward.specs.Evaluation.{productOf, spanOf}
 use Rattle.outward.proofs.Laws.{Held, HeldBelow, product-held, sum-held, span-left, span-right}
 use Rattle.boore_atkinson.specs.declared.Motion.{Motion}
 use Rattle.boore_atkinson.specs.SiteTerm.{x, y, c, d, lowPart, transition, highPart, nonlinearPart}
-use Rattle.boore_atkinson.specs.Constants.{minusLnLow, minusLnA1, minusLnA2, lnTen, cOver, dOver}
+use Rattle.boore_atkinson.specs.Constants.{minusLnLow, minusLnA1, minusLnA2, cOver, dOver}
 use Rattle.boore_atkinson.specs.Evaluation.{exactly, zOf, cubicOf, straightOf, branchOf, curveOf}
 use Rattle.boore_atkinson.proofs.Constants.{low-held, first-below, second-below, ten-below, c-held, d-held}
 use Rattle.boore_atkinson.proofs.RockLaws.{Moves}
@@ -54,7 +54,8 @@ module _ (b t : Ends) {θ : Fraction} (A B : Ends) where
 
 -- ---- what is not below zero
 
-pub not-below : {z : Fraction} {lu ld hu hd : ℕ} → Lies z lu ld hu hd → zeroQ ≤q z → Held z (record { low = lu - ld; high = hu - hd })
+pub not-below : {z : Fraction} {lu ld hu hd : ℕ} → Lies z lu ld hu hd → zeroQ ≤q z → Held z
+    (record { low = lu - ld; high = hu - hd })
 not-below {z} {lu} {ld} {hu} {hd} h some = record {
   from = low (decLe ld lu);
   to = ≤q-trans (h .to) (le-of (units-Is hu hd) (units-Is (hu - hd) 0) (omega (arith, order)));
@@ -101,7 +102,8 @@ module _ {σ : Points} (known : Known σ) {P : Fraction} {b : Ends} (h : HeldBel
         from = h .from;
         to = least-of (b .low) (minusLnA2 .low) (h .to) (≤q-trans le (second-below known .to));
       } in
-      not-below (lies-wider (lies-difference p (first-below known)) (minusLnA1 .low) (b .high) (minusLnA1 .high) (max (b .low) (minusLnA2 .low)) (omega arith) (omega arith))
+      not-below (lies-wider (lies-difference p (first-below known)) (minusLnA1 .low) (b .high) (minusLnA1 .high)
+      (max (b .low) (minusLnA2 .low)) (omega arith) (omega arith))
       (above-zero lt)
 
   cubic-held : {z c' d' : Fraction} {e : Ends} → Held z e → Held c' cOver → Held d' dOver →
@@ -120,7 +122,8 @@ module _ {σ : Points} (known : Known σ) {P : Fraction} {b : Ends} (h : HeldBel
         to = h .to;
       } in
       let o = passes h (second-below known) lt in
-      lies-wider (lies-sum (low-held known) (lies-difference p (ten-below known))) _ 0 _ 0 (omega arith) (omega (arith, o))
+      lies-wider (lies-sum (low-held known) (lies-difference p (ten-below known))) _ 0 _ 0 (omega arith)
+      (omega (arith, o))
 
 -- ---- the nonlinear part is β (−κ + θ)
 
@@ -131,7 +134,8 @@ product-moves {β} {κ} {θ} h low curve =
     let ν = lies-negated h in
     lies-same (≈q-sym (mul-add β (negQ κ) θ))
     (lies-wider
-    (lies-sum (lies-same (≈q-sym (neg-swap β κ)) (product-held ν low)) (lies-same (neg-twice β θ) (lies-negated (product-held ν curve))))
+    (lies-sum (lies-same (≈q-sym (neg-swap β κ)) (product-held ν low))
+    (lies-same (neg-twice β θ) (lies-negated (product-held ν curve))))
     _ _ _ _ (omega arith) (omega arith))
 
 -- c and d are β times what they are over the slope
@@ -150,9 +154,11 @@ gathered : {c d : Fraction} (β a c' d' u v : Fraction) → c ≈q β *q c' → 
 gathered β a c' d' u v ec ed =
     let cu = ≈q-trans (mul-cong-left u ec) (mul-assoc β c' u) in
     let dv = ≈q-trans (mul-cong-left v ed) (mul-assoc β d' v) in
-    ≈q-trans (add-cong (≈q-refl (β *q a)) (≈q-trans (add-cong cu dv) (mul-add β (c' *q u) (d' *q v)))) (mul-add β a (c' *q u +q d' *q v))
+    ≈q-trans (add-cong (≈q-refl (β *q a)) (≈q-trans (add-cong cu dv) (mul-add β (c' *q u) (d' *q v))))
+    (mul-add β a (c' *q u +q d' *q v))
 
-module _ {σ : Points} (known : Known σ) (slope p : Formula) {n b : Ends} (h : HeldBelow (value σ slope) n) (k : HeldBelow (value σ p) b) where
+module _ {σ : Points} (known : Known σ) (slope p : Formula) {n b : Ends} (h : HeldBelow (value σ slope) n)
+    (k : HeldBelow (value σ p) b) where
   abbrev β : Fraction
   β = value σ slope
 
@@ -173,7 +179,8 @@ module _ {σ : Points} (known : Known σ) (slope p : Formula) {n b : Ends} (h : 
   low-moves le =
       lies-same (≈q-trans low-same (mul-cong-right β (add-zero (negQ (σ .lnAt 10 6)))))
       (product-moves h (low-held known)
-      (branch-from b minusLnA1 (exactly 0) _ (reaches k (first-below known) le) (lies-stated zero-Is 0 0 (omega arith))))
+      (branch-from b minusLnA1 (exactly 0) _ (reaches k (first-below known) le)
+      (lies-stated zero-Is 0 0 (omega arith))))
 
   -- up to ln 0.09
   transition-moves : σ .lnAt 3 100 <q P → P ≤q σ .lnAt 9 100 → Moves (value σ (transition slope p)) (own (curveOf b))
@@ -198,14 +205,16 @@ module _ {σ : Points} (known : Known σ) (slope p : Formula) {n b : Ends} (h : 
       lies-same (mul-cong-right β (add-cancel (σ .lnAt 10 6) (P -q σ .lnAt 1 10)))
       (product-moves h (low-held known)
       (branch-below b minusLnA1 (exactly 0) _ (passes k (first-below known) lt)
-      (branch-below b minusLnA2 (cubicOf (zOf b)) _ (passes k (second-below known) beyond) (straight-held known k beyond))))
+      (branch-below b minusLnA2 (cubicOf (zOf b)) _ (passes k (second-below known) beyond)
+      (straight-held known k beyond))))
 
   pub nonlinear-moves : Moves (value σ (nonlinearPart slope p)) (own (curveOf b))
   unfolding value nonlinearPart
   nonlinear-moves = go (leQ P (σ .lnAt 3 100)) (leQ P (σ .lnAt 9 100)) refl refl
     where
       go : (i j : Bool) → leQ P (σ .lnAt 3 100) ≡ i → leQ P (σ .lnAt 9 100) ≡ j →
-          Moves (cond i (value σ (lowPart slope)) (cond j (value σ (transition slope p)) (value σ (highPart slope p)))) (own (curveOf b))
+          Moves (cond i (value σ (lowPart slope)) (cond j (value σ (transition slope p)) (value σ (highPart slope p))))
+          (own (curveOf b))
       go true j ei ej = low-moves record { le = rw ei tt }
       go false true ei ej = transition-moves record { lt = rw ei tt } record { le = rw ej tt }
       go false false ei ej = high-moves record { lt = rw ei tt } record { lt = rw ej tt }

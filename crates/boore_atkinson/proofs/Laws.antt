@@ -1,5 +1,5 @@
 -- What `medianOf`, `nonlinearEndsOf` and `sigmaOf` promise (specs/Promise).
-use mathlib.Core.Path.{_≡_, refl}
+use mathlib.Core.Path.{refl}
 use mathlib.Core.Bool.{Bool, true, false, cond}
 use Prim.Native.Nat.{ℕ, _+_, _*_, _-_, _^_, _≤_, _<_}
 use native.Mathlib.Nat.{le-refl}
@@ -7,24 +7,23 @@ use native.Mathlib.Omega.{arith}
 use lib.Dec.{leb, ltb, eqb}
 use lib.IntN.{pos, negℤ, _+ℤ_}
 use lib.Signed.{_≤ℤ_}
-use Rattle.signed.specs.declared.Ends as signed
 use Rattle.signed.specs.Evaluation.{SmallerThan, betweenOf}
 use Rattle.signed.specs.Whole.{up, down}
 use Rattle.signed.proofs.Whole.{zero-sub}
 use Rattle.signed.proofs.Laws.{between-small}
 use Rattle.exact.specs.Fraction.{Fraction, _over_, zeroQ, _-q_}
 use Rattle.exact.specs.Pair.{_∈_}
-use Rattle.exact.specs.Formula.{Formula, stated, ln, _⊕_, _⊗_, _⊘_, units, ends, Encloses}
+use Rattle.exact.specs.Formula.{Formula, stated, ln, _⊕_, _⊗_, _⊘_, ends, Encloses}
 use Rattle.exact.proofs.FractionLaws.{over-Is}
 use Rattle.exact.proofs.Points.{Points, value, Sound, Positive, positive-ln, positive-product}
-use Rattle.exact.proofs.UnitLaws.{Lies, lies-wider, lies-stated}
+use Rattle.exact.proofs.UnitLaws.{lies-wider, lies-stated}
 use Rattle.logarithm.specs.declared.Ends.{Ends}
 use Rattle.logarithm.proofs.Enclosure.{Known, encloses}
-use Rattle.outward.specs.Evaluation.{Sized, sumOf}
+use Rattle.outward.specs.Evaluation.{sumOf}
 use Rattle.outward.proofs.Laws.{HeldBelow, sized-wider, sum-sized, lies-between, narrow-between}
 use Rattle.boore_atkinson.specs.declared.Motion.{Motion}
-use Rattle.boore_atkinson.specs.Tables.{SiteAmplification, DistanceScaling, MagnitudeScaling, Total, Row, rowAt, totalAt, pga}
-use Rattle.boore_atkinson.specs.Rock.{sumOfSquares, R, lnR, distanceTerm, onRock}
+use Rattle.boore_atkinson.specs.Tables.{SiteAmplification, Total, Row, rowAt, totalAt, pga}
+use Rattle.boore_atkinson.specs.Rock.{R, lnR, distanceTerm, onRock}
 use Rattle.boore_atkinson.specs.SiteTerm.{b1Of, b2Of, linearPart, bnl, x, y, c, d, lowPart, transition, highPart, nonlinearPart}
 use Rattle.boore_atkinson.specs.Median.{p, median, sigma}
 use Rattle.boore_atkinson.specs.Rows.{siteParts, distanceParts, magnitudeParts, SiteSigns, DistanceSigns, MagnitudeSigns, TotalLimits}
@@ -47,7 +46,8 @@ motion-wider s hw hb = record {
   together = omega (arith, s .together);
 }
 
-pub plus-sized : {a b : Motion} {w A v B : ℕ} → MotionSized a w A → MotionSized b v B → MotionSized (plusOf a b) (w + v) (A + B)
+pub plus-sized : {a b : Motion} {w A v B : ℕ} → MotionSized a w A → MotionSized b v B → MotionSized (plusOf a b) (w + v)
+    (A + B)
 unfolding plusOf sumOf
 plus-sized p q = record {
   gain = sum-sized (p .gain) (q .gain);
@@ -67,7 +67,8 @@ motion-narrow a w s h =
 motion-small : (a : Motion) {w b : ℕ} → MotionSized a w b → b < 2 ^ 53 → SmallerThan (2 ^ 53) (endsOf a)
 unfolding endsOf
 motion-small a s h =
-    between-small (2 ^ 53) (omega (arith, s .gain .order, s .gain .small)) (omega (arith, s .loss .small)) (omega (arith, s .gain .small))
+    between-small (2 ^ 53) (omega (arith, s .gain .order, s .gain .small)) (omega (arith, s .loss .small))
+    (omega (arith, s .gain .small))
     (omega (arith, s .loss .order, s .loss .small))
 
 -- ---- logarithms are of numbers of at least 1, and divisors above zero
@@ -120,7 +121,8 @@ nonlinear-sound slope q s t =
 -- ---- the nonlinear part
 
 -- wherever −p lies within b
-nonlinear-encloses : (s : SiteAmplification) → SiteSigns s → {v : ℕ} → 1_800 ≤ v → v ≤ 13_000 → (q : Formula) (b : Ends) → Sound q →
+nonlinear-encloses : (s : SiteAmplification) → SiteSigns s → {v : ℕ} → 1_800 ≤ v → v ≤ 13_000 → (q : Formula)
+    (b : Ends) → Sound q →
     ((σ : Points) → Known σ → HeldBelow (value σ q) b) →
     let e = nonlinearEndsOf s v b in
     Encloses (ends (e .low) (e .high)) (nonlinearPart (bnl s v) q)
@@ -139,7 +141,8 @@ pub nonlinear-promise : {k v : ℕ} {b : Ends} → NonlinearDomain k v b →
 unfolding Sound value nonlinearEndsOf
 nonlinear-promise {k} {v} {b} h = record {
   encloses = λ q inside.
-      nonlinear-encloses (rowAt k .site) (site-limits k (h .row)) (h .slow) (h .fast) (stated q) b tt (λ σ known. below-of b inside);
+      nonlinear-encloses (rowAt k .site) (site-limits k (h .row)) (h .slow) (h .fast) (stated q) b tt
+      (λ σ known. below-of b inside);
   narrow = λ w.
       motion-narrow _ nonlinearWidth
       (nonlinear-narrow (site-limits k (h .row) .sizes) (h .slow)
@@ -160,10 +163,12 @@ p-below {m} {d} mechanism least most near known =
 
 -- ---- the median
 
-module _ (r : Row) (s : SiteSigns (r .site)) (l : DistanceSigns (r .distance)) (k : MagnitudeSigns (r .magnitude)) {m d v : ℕ}
+module _ (r : Row) (s : SiteSigns (r .site)) (l : DistanceSigns (r .distance))
+    (k : MagnitudeSigns (r .magnitude)) {m d v : ℕ}
     (least : 500 ≤ m) (most : m ≤ 800) (near : d ≤ 19_999) (slow : 1_800 ≤ v) (fast : v ≤ 13_000) (mechanism : ℕ) where
   abbrev rock : Motion
-  rock = rockOf (distanceParts (r .distance)) (magnitudeParts (r .magnitude)) m (effectiveOf d (r .distance .h)) mechanism
+  rock =
+      rockOf (distanceParts (r .distance)) (magnitudeParts (r .magnitude)) m (effectiveOf d (r .distance .h)) mechanism
 
   abbrev linear : Motion
   linear = linearOf (siteParts (r .site)) v
@@ -179,12 +184,15 @@ module _ (r : Row) (s : SiteSigns (r .site)) (l : DistanceSigns (r .distance)) (
 
   pub total-sized : MotionSized (plusOf (plusOf rock linear) nonlinear) 49 98_538_000_001
   total-sized =
-      plus-sized (plus-sized rock-fits (linear-sized (s .sizes) slow fast)) (nonlinear-narrow (s .sizes) slow (below-sized mechanism most near))
+      plus-sized (plus-sized rock-fits (linear-sized (s .sizes) slow fast))
+      (nonlinear-narrow (s .sizes) slow (below-sized mechanism most near))
 
-  total-moves : (σ : Points) → Known σ → Moves (value σ (median r m d v mechanism)) (plusOf (plusOf rock linear) nonlinear)
+  total-moves : (σ : Points) → Known σ → Moves (value σ (median r m d v mechanism))
+      (plusOf (plusOf rock linear) nonlinear)
   unfolding value median nonlinearOf
   total-moves σ known =
-      plus-moves (plus-moves (rock-moves r l k least most known near mechanism) (linear-moves (r .site) s known slow fast))
+      plus-moves (plus-moves (rock-moves r l k least most known near mechanism)
+      (linear-moves (r .site) s known slow fast))
       (nonlinear-moves known (bnl (r .site) v) (p m d mechanism) (slope-below (r .site) s known slow fast)
       (p-below mechanism least most near known))
 
@@ -192,8 +200,11 @@ module _ (r : Row) (s : SiteSigns (r .site)) (l : DistanceSigns (r .distance)) (
   unfolding Sound median linearPart p
   median-sound =
       let own = distance-limits 0 (omega arith) .sizes in
-      let q = rock-sound pga m mechanism (squares near (own .shallow) (own .deep)) in
-      ((rock-sound r m mechanism fits, (tt, (omega arith, omega arith))), nonlinear-sound (bnl (r .site) v) _ (slope-sound (r .site) slow) q)
+      let q = rock-sound pga m mechanism (squares near (own .shallow) (own .deep)) in (
+        (rock-sound r m mechanism fits, (tt, (omega arith, omega arith))),
+        nonlinear-sound (bnl (r .site) v) _
+            (slope-sound (r .site) slow) q,
+      )
 
   pub median-ends : MedianEnds r m d v mechanism (medianOf r m d v mechanism)
   unfolding medianOf
@@ -207,7 +218,8 @@ module _ (r : Row) (s : SiteSigns (r .site)) (l : DistanceSigns (r .distance)) (
 pub medianOf-promise : {k m d v : ℕ} (mechanism : ℕ) → MedianDomain k m d v →
     MedianEnds (rowAt k) m d v mechanism (medianOf (rowAt k) m d v mechanism)
 medianOf-promise {k} mechanism h =
-    median-ends (rowAt k) (site-limits k (h .row)) (distance-limits k (h .row)) (magnitude-limits k (h .row)) (h .magnitude-low) (h .magnitude-high)
+    median-ends (rowAt k) (site-limits k (h .row)) (distance-limits k (h .row)) (magnitude-limits k (h .row))
+    (h .magnitude-low) (h .magnitude-high)
     (h .near) (h .slow) (h .fast) mechanism
 
 -- ---- sigma
@@ -222,7 +234,8 @@ module _ (t : Total) (mechanism : ℕ) where
       pos own over 1_000 ∈ ends (e .low) (e .high)
   unfolding up down
   total-in =
-      lies-between (lies-stated (over-Is (pos own) 1_000 (omega arith)) (1_000_000 * own) 0 (omega arith)) (1_000_000 * own) 0
+      lies-between (lies-stated (over-Is (pos own) 1_000 (omega arith)) (1_000_000 * own) 0 (omega arith))
+      (1_000_000 * own) 0
       (1_000_000 * own) 0 (omega arith) (omega arith)
 
   total-small : TotalLimits t → own ≤ 1_000

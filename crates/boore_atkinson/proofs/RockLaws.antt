@@ -21,8 +21,6 @@ use Rattle.outward.specs.Evaluation.{multipleOf, sumOf}
 use Rattle.outward.proofs.Laws.{Held, HeldBelow, minus-held}
 use Rattle.boore_atkinson.specs.declared.Motion.{Motion}
 use Rattle.boore_atkinson.specs.declared.rock.Exact.{Exact}
-use Rattle.boore_atkinson.specs.declared.table.DistanceRow.{DistanceRow}
-use Rattle.boore_atkinson.specs.declared.table.MagnitudeRow.{MagnitudeRow}
 use Rattle.boore_atkinson.specs.Tables.{DistanceScaling, MagnitudeScaling, Row}
 use Rattle.boore_atkinson.specs.Rock.{hundredThousandths, hundredths, sumOfSquares, R, lnR, geometricalSpreading, distanceTerm, e, magnitudeTerm, onRock}
 use Rattle.boore_atkinson.specs.Rows.{distanceParts, magnitudeParts, DistanceSigns, MagnitudeSigns}
@@ -49,7 +47,9 @@ module _ {w : Fraction} (k : ℕ) (h : w ∈ rootValues rootFineness k) where
       let high = mul-Is hundredth (over-Is (pos (suc k)) rootFineness (omega arith)) in
       let m = mul-between-right (pos 1 over 100) (upward (h .from) (h .to)) in
       record {
-        from = between-low m (le-of (units-Is (k * 78_125 / 1_024) 0) low (omega arith)) (le-of (units-Is (k * 78_125 / 1_024) 0) high (omega arith));
+        from =
+            between-low m (le-of (units-Is (k * 78_125 / 1_024) 0) low (omega arith))
+            (le-of (units-Is (k * 78_125 / 1_024) 0) high (omega arith));
         to =
             between-high m (le-of low (units-Is ((k + 1) * 78_125 / 1_024 + 1) 0) (omega arith))
             (le-of high (units-Is ((k + 1) * 78_125 / 1_024 + 1) 0) (omega arith));
@@ -60,7 +60,8 @@ module _ {w : Fraction} (k : ℕ) (h : w ∈ rootValues rootFineness k) where
 away-Is : {m : ℕ} → 500 ≤ m → Is (hundredths m -q pos 45 over 10) (10 * (m - 450)) 0 1_000
 unfolding _-q_ up down
 away-Is {m} low =
-    is-natural (10 * (m - 450)) (add-Is (over-Is (pos m) 100 (omega arith)) (neg-Is (over-Is (pos 45) 10 (omega arith))))
+    is-natural (10 * (m - 450)) (add-Is (over-Is (pos m) 100 (omega arith))
+    (neg-Is (over-Is (pos 45) 10 (omega arith))))
     (omega arith)
 
 module _ (r : DistanceScaling) (l : DistanceSigns r) {m : ℕ} (least : 500 ≤ m) (most : m ≤ 800) where
@@ -83,25 +84,31 @@ module _ (r : DistanceScaling) (l : DistanceSigns r) {m : ℕ} (least : 500 ≤ 
     fits = squares near (l .sizes .shallow) (l .sizes .deep)
 
     -- (c1 + c2 (M − Mref)) ln R
-    spreading-held : HeldBelow (geometricalSpreading r m *q (pos 1 over 2 *q σ .lnAt (sumOfSquares d (r .h)) 10_000)) (multipleOf spread (effectiveOf d (r .h) .ln))
+    spreading-held : HeldBelow (geometricalSpreading r m *q (pos 1 over 2 *q σ .lnAt (sumOfSquares d (r .h)) 10_000))
+        (multipleOf spread (effectiveOf d (r .h) .ln))
     unfolding effectiveOf
     spreading-held =
-        lies-same (≈q-sym (mul-assoc (geometricalSpreading r m) (pos 1 over 2) (σ .lnAt (sumOfSquares d (r .h)) 10_000)))
+        lies-same (≈q-sym (mul-assoc (geometricalSpreading r m) (pos 1 over 2)
+        (σ .lnAt (sumOfSquares d (r .h)) 10_000)))
         (minus-held (1_000_000 * spread) 20_000_000_000_000 spread (omega arith)
         (lies-natural _ _ (known .ln-within (effective-domain fits))) spread-Is)
 
     -- c3 R
-    anelastic-held : HeldBelow (hundredThousandths (r .c3) *q (pos 1 over 100 *q σ .rootAt (sumOfSquares d (r .h)))) (multipleOf (200 * down (r .c3)) (effectiveOf d (r .h) .km))
+    anelastic-held : HeldBelow (hundredThousandths (r .c3) *q (pos 1 over 100 *q σ .rootAt (sumOfSquares d (r .h))))
+        (multipleOf (200 * down (r .c3)) (effectiveOf d (r .h) .km))
     unfolding effectiveOf
     anelastic-held =
-        minus-held (down (r .c3)) 100_000 (200 * down (r .c3)) (omega arith) (km-held (rootOf (sumOfSquares d (r .h))) (known .root-within (sumOfSquares d (r .h))))
+        minus-held (down (r .c3)) 100_000 (200 * down (r .c3)) (omega arith)
+        (km-held (rootOf (sumOfSquares d (r .h))) (known .root-within (sumOfSquares d (r .h))))
         (over-below (r .c3) 100_000 (omega arith) (l .c3-below))
 
     -- −c3 Rref
-    pegged : Lies (hundredThousandths (r .c3) *q negQ (pos 1 over 1)) (10_000 * down (r .c3)) 0 (10_000 * down (r .c3)) 0
+    pegged : Lies (hundredThousandths (r .c3) *q negQ (pos 1 over 1)) (10_000 * down (r .c3)) 0
+        (10_000 * down (r .c3)) 0
     unfolding up down
     pegged =
-        lies-stated (mul-Is (over-below (r .c3) 100_000 (omega arith) (l .c3-below)) (neg-Is (over-Is (pos 1) 1 (omega arith))))
+        lies-stated (mul-Is (over-below (r .c3) 100_000 (omega arith) (l .c3-below))
+        (neg-Is (over-Is (pos 1) 1 (omega arith))))
         (10_000 * down (r .c3)) 0 (omega arith)
 
     distance-lies :
@@ -111,7 +118,8 @@ module _ (r : DistanceScaling) (l : DistanceSigns r) {m : ℕ} (least : 500 ≤ 
     distance-lies =
         lies-wider
         (lies-sum spreading-held
-        (lies-same (≈q-sym (mul-add (hundredThousandths (r .c3)) (pos 1 over 100 *q σ .rootAt (sumOfSquares d (r .h))) (negQ (pos 1 over 1))))
+        (lies-same (≈q-sym (mul-add (hundredThousandths (r .c3)) (pos 1 over 100 *q σ .rootAt (sumOfSquares d (r .h)))
+        (negQ (pos 1 over 1))))
         (lies-sum anelastic-held pegged))) _ _ _ _ (omega arith) (omega arith)
 
 -- ---- the magnitude term
@@ -122,7 +130,8 @@ ExactLies x e = Lies x (e .gain) (e .loss) (e .gain) (e .loss)
 stated-lies : (z : ℤ) → ExactLies (hundredThousandths z) (record { gain = 10_000 * up z; loss = 10_000 * down z })
 stated-lies z = lies-stated (over-Is z 100_000 (omega arith)) _ _ (omega arith)
 
-level-lies : (r : MagnitudeScaling) (mechanism : ℕ) → ExactLies (hundredThousandths (e r mechanism)) (levelOf (magnitudeParts r) mechanism)
+level-lies : (r : MagnitudeScaling) (mechanism : ℕ) → ExactLies (hundredThousandths (e r mechanism))
+    (levelOf (magnitudeParts r) mechanism)
 unfolding e levelOf
 level-lies r mechanism = go (eqb mechanism 9) (eqb mechanism 0) (eqb mechanism 1)
   where
@@ -153,7 +162,8 @@ module _ (r : MagnitudeScaling) (l : MagnitudeSigns r) (m : ℕ) where
   over-Mh h = record { value = omega (arith, away-at .value); scale = omega (arith, away-at .scale) }
 
   -- e5 (M − Mh) and e6 (M − Mh)² up to the hinge, e7 (M − Mh) above
-  slope-lies : m ≤ r .Mh → Lies (hundredThousandths (r .e5) *q away) 0 (100 * (up (r .e5) * (r .Mh - m))) 0 (100 * (up (r .e5) * (r .Mh - m)))
+  slope-lies : m ≤ r .Mh → Lies (hundredThousandths (r .e5) *q away) 0 (100 * (up (r .e5) * (r .Mh - m))) 0
+      (100 * (up (r .e5) * (r .Mh - m)))
   slope-lies h =
       lies-stated (mul-Is (over-above (r .e5) 100_000 (omega arith) (l .e5-above)) (under-Is h)) _ _ (omega arith)
 
@@ -162,13 +172,16 @@ module _ (r : MagnitudeScaling) (l : MagnitudeSigns r) (m : ℕ) where
       Lies (hundredThousandths (r .e6) *q (away *q away)) 0 loss 0 loss
   bow-lies h =
       lies-stated
-      (mul-Is (over-below (r .e6) 100_000 (omega arith) (l .e6-below)) (mul-Is (under-Is h) (under-Is h))) _ _ (omega arith)
+      (mul-Is (over-below (r .e6) 100_000 (omega arith) (l .e6-below)) (mul-Is (under-Is h) (under-Is h))) _ _
+      (omega arith)
 
-  rise-lies : r .Mh < m → Lies (hundredThousandths (r .e7) *q away) (100 * (up (r .e7) * (m - r .Mh))) 0 (100 * (up (r .e7) * (m - r .Mh))) 0
+  rise-lies : r .Mh < m → Lies (hundredThousandths (r .e7) *q away) (100 * (up (r .e7) * (m - r .Mh))) 0
+      (100 * (up (r .e7) * (m - r .Mh))) 0
   rise-lies h =
       lies-stated (mul-Is (over-above (r .e7) 100_000 (omega arith) (l .e7-above)) (over-Mh h)) _ _ (omega arith)
 
-  magnitude-lies : (mechanism : ℕ) → ExactLies (magnitudeTerm r m mechanism) (magnitudeOf (magnitudeParts r) m mechanism)
+  magnitude-lies : (mechanism : ℕ) → ExactLies (magnitudeTerm r m mechanism)
+      (magnitudeOf (magnitudeParts r) m mechanism)
   unfolding magnitudeTerm magnitudeOf
   magnitude-lies mechanism = go (leb m (r .Mh)) refl
     where
@@ -176,26 +189,35 @@ module _ (r : MagnitudeScaling) (l : MagnitudeSigns r) (m : ℕ) where
           let x : Exact = levelOf (magnitudeParts r) mechanism in
           ExactLies
           (cond c
-          (hundredThousandths (e r mechanism) +q hundredThousandths (r .e5) *q away +q hundredThousandths (r .e6) *q (away *q away))
+          (hundredThousandths (e r mechanism) +q hundredThousandths (r .e5) *q away +q hundredThousandths (r .e6) *q
+          (away *q away))
           (hundredThousandths (e r mechanism) +q hundredThousandths (r .e7) *q away))
           (cond c
-          record { gain = x .gain; loss = x .loss + 100 * (up (r .e5) * (r .Mh - m)) + down (r .e6) * ((r .Mh - m) * (r .Mh - m)) }
+          record {
+            gain = x .gain;
+            loss = x .loss + 100 * (up (r .e5) * (r .Mh - m)) + down (r .e6) *
+                ((r .Mh - m) * (r .Mh - m));
+          }
           record { gain = x .gain + 100 * (up (r .e7) * (m - r .Mh)); loss = x .loss })
       go true c =
           let h = leb-true m (r .Mh) c in
-          lies-wider (lies-sum (lies-sum (level-lies r mechanism) (slope-lies h)) (bow-lies h)) _ _ _ _ (omega arith) (omega arith)
+          lies-wider (lies-sum (lies-sum (level-lies r mechanism) (slope-lies h)) (bow-lies h)) _ _ _ _ (omega arith)
+          (omega arith)
       go false c =
           let h = leb-false m (r .Mh) c in
           lies-wider (lies-sum (level-lies r mechanism) (rise-lies h)) _ _ _ _ (omega arith) (omega arith)
 
 -- ---- the motion on rock
 
-module _ (r : Row) (l : DistanceSigns (r .distance)) (k : MagnitudeSigns (r .magnitude)) {m : ℕ} (least : 500 ≤ m) (most : m ≤ 800) where
+module _ (r : Row) (l : DistanceSigns (r .distance)) (k : MagnitudeSigns (r .magnitude)) {m : ℕ} (least : 500 ≤ m)
+    (most : m ≤ 800) where
   pub rock-moves : {σ : Points} → Known σ → {d : ℕ} → d ≤ 19_999 → (mechanism : ℕ) →
       Moves (value σ (onRock r m d mechanism))
-      (rockOf (distanceParts (r .distance)) (magnitudeParts (r .magnitude)) m (effectiveOf d (r .distance .h)) mechanism)
+      (rockOf (distanceParts (r .distance)) (magnitudeParts (r .magnitude)) m
+      (effectiveOf d (r .distance .h)) mechanism)
   unfolding value onRock rockOf
   rock-moves known near mechanism =
       lies-wider
-      (lies-sum (distance-lies (r .distance) l least most known near) (magnitude-lies (r .magnitude) k m mechanism)) _ _ _ _
+      (lies-sum (distance-lies (r .distance) l least most known near)
+      (magnitude-lies (r .magnitude) k m mechanism)) _ _ _ _
       (omega arith) (omega arith)

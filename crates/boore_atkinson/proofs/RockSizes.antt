@@ -1,14 +1,11 @@
 -- Sizes of what the motion on rock is made of.
-use mathlib.Core.Path.{_≡_, refl}
 use mathlib.Core.Bool.{Bool, true, false, cond}
-use Prim.Native.Nat.{ℕ, _+_, _*_, _-_, _/_, _^_, _≤_, _<_}
-use native.Mathlib.Nat.{mul-le-mul, mul-le-mul-left, mul-le-mul-right}
+use Prim.Native.Nat.{ℕ, _+_, _*_, _-_, _^_, _≤_, _<_}
+use native.Mathlib.Nat.{mul-le-mul, mul-le-mul-left}
 use native.Mathlib.Omega.{arith}
-use borrow.Author.Tests.{leb-true, leb-false}
 use lib.Dec.{eqb, leb}
 use Rattle.signed.specs.Whole.{up, down}
 use Rattle.logarithm.specs.Promise.{LnDomain}
-use Rattle.logarithm.specs.Evaluation.{rootOf}
 use Rattle.logarithm.proofs.Laws.{rootOf-small}
 use Rattle.outward.specs.Evaluation.{Sized, multipleOf}
 use Rattle.outward.proofs.Laws.{ln-sized, multiple-sized, sum-sized, sized-wider}
@@ -18,7 +15,7 @@ use Rattle.boore_atkinson.specs.declared.table.DistanceRow.{DistanceRow}
 use Rattle.boore_atkinson.specs.declared.table.MagnitudeRow.{MagnitudeRow}
 use Rattle.boore_atkinson.specs.Tables.{rowAt, pga}
 use Rattle.boore_atkinson.specs.Rock.{sumOfSquares}
-use Rattle.boore_atkinson.specs.Rows.{distanceParts, magnitudeParts, DistanceLimits, MagnitudeLimits}
+use Rattle.boore_atkinson.specs.Rows.{magnitudeParts, DistanceLimits, MagnitudeLimits}
 use Rattle.boore_atkinson.specs.Evaluation.{kmOf, effectiveOf, spreadOf, fallOf, levelOf, magnitudeOf, rockOf, belowOf}
 use Rattle.boore_atkinson.specs.Sizes.{EffectiveSized, MagnitudeBounds, Small, MotionSized}
 use Rattle.boore_atkinson.proofs.Rows.{distance-limits, magnitude-limits}
@@ -31,10 +28,12 @@ pub record Squares (d h : ℕ) : Type 0 where
   pub depth : h * h ≤ 160_000
 
 pub squares : {d h : ℕ} → d ≤ 19_999 → 100 ≤ h → h ≤ 400 → Squares d h
-squares near shallow deep = record { distance = mul-le-mul near near; least = mul-le-mul shallow shallow; depth = mul-le-mul deep deep }
+squares near shallow deep =
+    record { distance = mul-le-mul near near; least = mul-le-mul shallow shallow; depth = mul-le-mul deep deep }
 
 pub effective-domain : {d h : ℕ} → Squares d h → LnDomain (sumOfSquares d h) 10_000
-effective-domain s = record { least = omega arith; order = omega (arith, s .least); small = omega (arith, s .distance, s .depth) }
+effective-domain s =
+    record { least = omega arith; order = omega (arith, s .least); small = omega (arith, s .distance, s .depth) }
 
 km-sized : {k : ℕ} → k < 2 ^ 32 → Sized (kmOf k) 78 330_000_000_000
 unfolding kmOf
@@ -42,7 +41,8 @@ km-sized h = record { order = omega arith; narrow = omega arith; small = omega a
 
 pub effective-sized : {d h : ℕ} → Squares d h → EffectiveSized (effectiveOf d h)
 unfolding effectiveOf
-effective-sized s = record { ln = ln-sized (effective-domain s); km = km-sized (rootOf-small (effective-domain s .small)) }
+effective-sized s =
+    record { ln = ln-sized (effective-domain s); km = km-sized (rootOf-small (effective-domain s .small)) }
 
 -- ---- the distance term
 
@@ -58,7 +58,8 @@ spread-bounds {r} {m} l high =
       most = omega (arith, mul-le-mul-left (r .2) away, l .spread-most);
     }
 
-module _ {r : DistanceRow} {m : ℕ} {s : EffectiveDistance} (l : DistanceLimits r) (high : m ≤ 800) (z : EffectiveSized s) where
+module _ {r : DistanceRow} {m : ℕ} {s : EffectiveDistance} (l : DistanceLimits r) (high : m ≤ 800)
+    (z : EffectiveSized s) where
   pub spreading-sized : Sized (multipleOf (spreadOf r m) (s .ln)) 2 8_820_000_001
   unfolding spreadOf
   spreading-sized =
@@ -89,7 +90,10 @@ module _ {r : MagnitudeRow} (l : MagnitudeLimits r) where
       go : (a b c : Bool) →
           Small (cond a record { gain = 10_000 * r .0; loss = 10_000 * r .1 }
           (cond b record { gain = 10_000 * r .2; loss = 10_000 * r .3 }
-          (cond c record { gain = 10_000 * r .4; loss = 10_000 * r .5 } record { gain = 10_000 * r .6; loss = 10_000 * r .7 }))) 3_000_000_000
+          (cond c record { gain = 10_000 * r .4; loss = 10_000 * r .5 } record {
+            gain = 10_000 * r .6;
+            loss = 10_000 * r .7;
+          }))) 3_000_000_000
       go true b c = record { gain = omega (arith, l .e1-gain); loss = omega (arith, l .e1-loss) }
       go false true c = record { gain = omega (arith, l .e2-gain); loss = omega (arith, l .e2-loss) }
       go false false true = record { gain = omega (arith, l .e3-gain); loss = omega (arith, l .e3-loss) }
@@ -97,17 +101,23 @@ module _ {r : MagnitudeRow} (l : MagnitudeLimits r) where
 
   pub magnitude-small : {m : ℕ} (mechanism : ℕ) → m ≤ 800 → Small (magnitudeOf r m mechanism) 60_000_000_000
   unfolding magnitudeOf
-  magnitude-small {m} mechanism high = go (leb m (r .11)) (levelOf r mechanism) (level-small mechanism) (magnitude-bounds l high)
+  magnitude-small {m} mechanism high =
+      go (leb m (r .11)) (levelOf r mechanism) (level-small mechanism) (magnitude-bounds l high)
     where
       go : (c : Bool) (e : Exact) → Small e 3_000_000_000 → MagnitudeBounds r m →
-          Small (cond c record { gain = e .gain; loss = e .loss + 100 * (r .8 * (r .11 - m)) + r .9 * ((r .11 - m) * (r .11 - m)) }
+          Small (cond c record {
+            gain =
+                e .gain;
+            loss = e .loss + 100 * (r .8 * (r .11 - m)) + r .9 * ((r .11 - m) * (r .11 - m));
+          }
           record { gain = e .gain + 100 * (r .10 * (m - r .11)); loss = e .loss }) 60_000_000_000
       go true e s b = record { gain = omega (arith, s .gain); loss = omega (arith, s .loss, b .slope, b .bow) }
       go false e s b = record { gain = omega (arith, s .gain, b .rise); loss = omega (arith, s .loss) }
 
 -- ---- the motion on rock
 
-pub rock-sized : {r : DistanceRow} {q : MagnitudeRow} {m : ℕ} {s : EffectiveDistance} (mechanism : ℕ) → DistanceLimits r →
+pub rock-sized : {r : DistanceRow} {q : MagnitudeRow} {m : ℕ} {s : EffectiveDistance} (mechanism : ℕ) →
+    DistanceLimits r →
     MagnitudeLimits q → m ≤ 800 → EffectiveSized s → MotionSized (rockOf r q m s mechanism) 4 80_000_000_000
 unfolding rockOf
 rock-sized {r} {q} {m} {s} mechanism l k high z =
@@ -115,7 +125,13 @@ rock-sized {r} {q} {m} {s} mechanism l k high z =
     let g = magnitude-small k mechanism high in
     record {
       gain = record { order = omega arith; narrow = omega arith; small = omega (arith, g .gain, l .c3) };
-      loss = record { order = omega (arith, f .order); narrow = omega (arith, f .narrow); small = omega (arith, f .small, g .loss) };
+      loss =
+          record {
+            order = omega (arith, f .order);
+            narrow = omega (arith, f .narrow);
+            small = omega
+                (arith, f .small, g .loss);
+          };
       together = omega (arith, f .narrow);
     }
 
@@ -136,7 +152,8 @@ pga-level : (mechanism : ℕ) → Falls (levelOf pgaMagnitude mechanism)
 unfolding levelOf rowAt up down
 pga-level mechanism = go (eqb mechanism 9) (eqb mechanism 0) (eqb mechanism 1)
   where
-    go : (a b c : Bool) → Falls (cond a (stated 53_804) (cond b (stated 50_350) (cond c (stated 75_472) (stated 50_970))))
+    go : (a b c : Bool) → Falls (cond a (stated 53_804)
+        (cond b (stated 50_350) (cond c (stated 75_472) (stated 50_970))))
     go true b c = record { gain = omega arith; loss = omega arith }
     go false true c = record { gain = omega arith; loss = omega arith }
     go false false true = record { gain = omega arith; loss = omega arith }
@@ -147,7 +164,11 @@ unfolding magnitudeOf rowAt up down
 pga-magnitude m mechanism = go (leb m 675) (levelOf pgaMagnitude mechanism) (pga-level mechanism)
   where
     go : (c : Bool) (e : Exact) → Falls e →
-        Falls (cond c record { gain = e .gain; loss = e .loss + 100 * (28_805 * (675 - m)) + 10_164 * ((675 - m) * (675 - m)) }
+        Falls (cond c record {
+          gain =
+              e .gain;
+          loss = e .loss + 100 * (28_805 * (675 - m)) + 10_164 * ((675 - m) * (675 - m));
+        }
         record { gain = e .gain + 100 * (0 * (m - 675)); loss = e .loss })
     go true e f = record { gain = f .gain; loss = omega (arith, f .loss) }
     go false e f = record { gain = omega (arith, f .gain); loss = f .loss }
@@ -166,4 +187,9 @@ below-sized {m} {d} mechanism high near =
     let s = effective-sized (squares near (l .shallow) (l .deep)) in
     let a = rock-sized mechanism l (magnitude-limits 0 (omega arith) .sizes) high s in
     let o = pga-order m mechanism (effectiveOf d (pga .distance .h)) l in
-    record { order = omega (arith, a .loss .order); narrow = omega (arith, a .loss .narrow, o); small = omega (arith, a .loss .small) }
+    record {
+      order = omega (arith, a .loss .order);
+      narrow = omega (arith, a .loss .narrow, o);
+      small = omega
+          (arith, a .loss .small);
+    }

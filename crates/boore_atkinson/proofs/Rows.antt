@@ -1,5 +1,5 @@
--- Signs and sizes of the coefficients: one test over all rows of each table. And the row for a period is the one that the
--- paper prints for it.
+-- Signs and sizes of the coefficients: one test over all rows of each table. And the row for a period is the one that
+-- the paper prints for it.
 use mathlib.Core.Path.{_≡_}
 use mathlib.Core.Bool.{Bool, true, _&&_}
 use mathlib.Core.List.{List, [], _∷_}

@@ -1,14 +1,13 @@
 -- The linear part and the slope lie where the evaluation has them.
 use mathlib.Core.Path.{_≡_, refl}
 use mathlib.Core.Bool.{Bool, true, false, cond}
-use Prim.Native.Nat.{ℕ, _+_, _*_, _-_, _≤_, _<_}
+use Prim.Native.Nat.{ℕ, _+_, _*_, _-_, _≤_}
 use native.Mathlib.Omega.{arith}
-use borrow.Author.Tests.{leb-true, leb-false, ltb-true, ltb-false}
+use borrow.Author.Tests.{leb-true, ltb-true, ltb-false}
 use lib.Dec.{leb, ltb}
-use lib.IntN.{pos}
-use Rattle.signed.specs.Whole.{up, down}
-use Rattle.exact.specs.Fraction.{Fraction, _over_, zeroQ, _+q_, negQ, _-q_, _*q_, _/q_, recipQ}
-use Rattle.exact.specs.Formula.{Formula, stated, ln, _⊕_, _⊗_, _⊘_}
+use Rattle.signed.specs.Whole.{down}
+use Rattle.exact.specs.Fraction.{_over_, zeroQ, _+q_, _-q_, _*q_, _/q_, recipQ}
+use Rattle.exact.specs.Formula.{stated, ln, _⊕_, _⊗_, _⊘_}
 use Rattle.exact.proofs.FractionLaws.{Is, zero-Is, over-below, add-Is, neg-Is}
 use Rattle.exact.proofs.AlgebraLaws.{mul-assoc}
 use Rattle.exact.proofs.Points.{Points, value}
@@ -16,12 +15,11 @@ use Rattle.exact.proofs.UnitLaws.{Lies, lies-natural, lies-negated, lies-same, 
 use Rattle.logarithm.specs.Promise.{LnDomain}
 use Rattle.logarithm.specs.Evaluation.{lnOf}
 use Rattle.logarithm.proofs.Enclosure.{Known}
-use Rattle.outward.specs.Evaluation.{multipleOf, productOf, sumOf}
-use Rattle.outward.proofs.Laws.{Held, HeldBelow, multiple-held, minus-held, minus-below, product-held}
-use Rattle.boore_atkinson.specs.Tables.{SiteAmplification, v1, v2, vref}
+use Rattle.outward.specs.Evaluation.{multipleOf, sumOf}
+use Rattle.outward.proofs.Laws.{Held, HeldBelow, minus-held, minus-below, product-held}
+use Rattle.boore_atkinson.specs.Tables.{SiteAmplification}
 use Rattle.boore_atkinson.specs.SiteTerm.{b1Of, b2Of, linearPart, bnl}
 use Rattle.boore_atkinson.specs.Rows.{siteParts, SiteSigns}
-use Rattle.boore_atkinson.specs.Constants.{overSlow, overFast}
 use Rattle.boore_atkinson.specs.Evaluation.{exactly, linearOf, slowSlopeOf, fastSlopeOf, slopeOf}
 use Rattle.boore_atkinson.proofs.Constants.{slow-held, fast-held}
 use Rattle.boore_atkinson.proofs.RockLaws.{Moves}
@@ -29,7 +27,8 @@ use Rattle.boore_atkinson.proofs.RockLaws.{Moves}
 pub ln-domain : {a b : ℕ} → 1 ≤ b → b ≤ a → a ≤ 20_000 → LnDomain a b
 ln-domain p q r = record { least = p; order = q; small = omega arith }
 
-module _ (s : SiteAmplification) (l : SiteSigns s) {σ : Points} (known : Known σ) {v : ℕ} (slow : 1_800 ≤ v) (fast : v ≤ 13_000) where
+module _ (s : SiteAmplification) (l : SiteSigns s) {σ : Points} (known : Known σ) {v : ℕ} (slow : 1_800 ≤ v)
+    (fast : v ≤ 13_000) where
   at-ends : {a b : ℕ} → LnDomain a b → Held (σ .lnAt a b) (lnOf a b)
   at-ends d = lies-natural _ _ (known .ln-within d)
 
@@ -82,7 +81,8 @@ module _ (s : SiteAmplification) (l : SiteSigns s) {σ : Points} (known : Known 
       lies-wider
       (lies-sum
       (lies-same (mul-assoc (b1Of s -q b2Of s) (σ .lnAt 3_000 v) (recipQ (σ .lnAt 3_000 1_800)))
-      (minus-held (100 * (down (s .b1) - 10 * down (s .b2))) 100_000 (20_000 * (down (s .b1) - 10 * down (s .b2))) (omega arith)
+      (minus-held (100 * (down (s .b1) - 10 * down (s .b2))) 100_000 (20_000 * (down (s .b1) - 10 * down (s .b2)))
+      (omega arith)
       (product-held (at-ends (ln-domain (omega arith) h (omega arith))) (slow-held known)) apart-Is)) b2-lies) _ _ _ _
       (omega arith) (omega arith)
 

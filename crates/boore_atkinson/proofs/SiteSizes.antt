@@ -1,19 +1,18 @@
 -- Sizes of what the site term is made of.
 use mathlib.Core.Path.{_≡_, refl}
 use mathlib.Core.Bool.{Bool, true, false, cond}
-use Prim.Native.Nat.{ℕ, _+_, _*_, _-_, _≤_, _<_, min, max}
-use native.Mathlib.Decide.{decLe, decLt}
+use Prim.Native.Nat.{ℕ, _+_, _*_, _-_, _≤_, _<_}
 use native.Mathlib.Omega.{arith}
-use borrow.Author.Tests.{leb-true, leb-false, ltb-true, ltb-false, le-leb, lt-leb, lt-ltb, le-ltb}
+use borrow.Author.Tests.{leb-true, leb-false, ltb-true, ltb-false}
 use lib.Dec.{leb, ltb}
 use Rattle.logarithm.specs.declared.Ends.{Ends}
 use Rattle.logarithm.specs.Promise.{LnDomain}
 use Rattle.logarithm.specs.Evaluation.{lnOf}
-use Rattle.outward.specs.Evaluation.{Sized, multipleOf, productOf, sumOf, spanOf}
+use Rattle.outward.specs.Evaluation.{Sized, multipleOf, productOf, spanOf}
 use Rattle.outward.proofs.Laws.{sized-wider, ln-sized, ln-sized-by, multiple-sized, product-sized, From, product-from, sum-from, sum-sized, span-sized}
 use Rattle.boore_atkinson.specs.declared.table.SiteRow.{SiteRow}
 use Rattle.boore_atkinson.specs.Rows.{SiteLimits}
-use Rattle.boore_atkinson.specs.Constants.{minusLnLow, minusLnA1, minusLnA2, lnTen, overSlow, overFast, cOver, dOver}
+use Rattle.boore_atkinson.specs.Constants.{minusLnLow, minusLnA1, minusLnA2, overSlow, overFast, cOver, dOver}
 use Rattle.boore_atkinson.specs.Evaluation.{exactly, linearOf, slowSlopeOf, fastSlopeOf, slopeOf, zOf, cubicOf, straightOf, branchOf, curveOf, nonlinearOf}
 use Rattle.boore_atkinson.specs.Sizes.{MotionSized}
 use Rattle.boore_atkinson.proofs.SiteLaws.{ln-domain}
@@ -32,7 +31,8 @@ over-fast-sized = record { order = omega arith; narrow = omega arith; small = om
 module _ {s : SiteRow} (l : SiteLimits s) {v : ℕ} (slow : 1_800 ≤ v) where
   linear-term : (a b : ℕ) → LnDomain a b → Sized (multipleOf (20_000 * s .0) (lnOf a b)) 3 16_000_000_000
   linear-term a b d =
-      sized-wider (multiple-sized (20_000 * s .0) (ln-sized d) 2 15_750_000_000 (omega (arith, l .blin)) (omega (arith, l .blin)))
+      sized-wider (multiple-sized (20_000 * s .0) (ln-sized d) 2 15_750_000_000 (omega (arith, l .blin))
+      (omega (arith, l .blin)))
       (omega arith) (omega arith)
 
   none : Sized (exactly 0) 3 16_000_000_000
@@ -97,7 +97,8 @@ module _ {s : SiteRow} (l : SiteLimits s) {v : ℕ} (slow : 1_800 ≤ v) where
           Sized
           (cond a (exactly (1_000_000 * s .1))
           (cond b (slowSlopeOf s v) (cond c (fastSlopeOf s v) (exactly 0)))) 6 900_000_000
-      go true b c eb ec = sized-wider (exactly-sized (1_000_000 * s .1) 900_000_000 (omega (arith, l .b1))) (omega arith) (omega arith)
+      go true b c eb ec =
+          sized-wider (exactly-sized (1_000_000 * s .1) 900_000_000 (omega (arith, l .b1))) (omega arith) (omega arith)
       go false true c eb ec = slow-sized (leb-true v 3_000 eb)
       go false false true eb ec =
           let g = leb-false v 3_000 eb in
@@ -144,7 +145,8 @@ anyWidth = record { square = omega arith; cube = omega arith; first = omega arit
 -- ---- the branches
 
 -- what holds of A where b is from t on, of B where it is below t, and of their span where it reaches both
-branch-cases : (Q : Ends → Type 0) (b t A B : Ends) → (t .low ≤ b .high → t .high ≤ b .low → Q A) → (b .high < t .low → Q B) →
+branch-cases : (Q : Ends → Type 0) (b t A B : Ends) → (t .low ≤ b .high → t .high ≤ b .low → Q A) →
+    (b .high < t .low → Q B) →
     (t .low ≤ b .high → b .low < t .high → Q (spanOf A B)) → Q (branchOf b t A B)
 unfolding branchOf
 branch-cases Q b t A B from below both = go (leb (t .low) (b .high)) (ltb (b .low) (t .high)) refl refl
@@ -160,9 +162,11 @@ module _ {b : Ends} (order : b .low ≤ b .high) where
   unfolding zOf
   z-sized h k = record { order = omega arith; narrow = omega arith; small = omega arith }
 
-  pub transition-sized : b .low < 3_506_557_898 → 2_407_945_608 ≤ b .high → Sized (cubicOf (zOf b)) 2_820_000_000 2_820_000_000
+  pub transition-sized : b .low < 3_506_557_898 → 2_407_945_608 ≤ b .high → Sized
+      (cubicOf (zOf b)) 2_820_000_000 2_820_000_000
   transition-sized h k =
-      sized-wider (cubic-sized 1_098_612_290 2_413_897_928 3_977_906_898 235_566_087 863_046_233 anyWidth (z-sized h k)) (omega arith)
+      sized-wider (cubic-sized 1_098_612_290 2_413_897_928 3_977_906_898 235_566_087 863_046_233 anyWidth (z-sized h k))
+      (omega arith)
       (omega arith)
 
   pub straight-sized : b .low < 2_407_945_609 → Sized (straightOf b) 2_820_000_000 2_820_000_000
@@ -172,18 +176,23 @@ module _ {b : Ends} (order : b .low ≤ b .high) where
   any-span : {x y : Ends} → Sized x 2_820_000_000 2_820_000_000 → Sized y 2_820_000_000 2_820_000_000 →
       Sized (spanOf x y) 2_820_000_000 2_820_000_000
   any-span p q =
-      span-sized p q 0 2_820_000_000 2_820_000_000 (record { least = omega arith }) (record { least = omega arith }) (omega arith) (omega arith) (omega arith)
+      span-sized p q 0 2_820_000_000 2_820_000_000 (record {
+        least =
+            omega arith;
+      }) (record { least = omega arith }) (omega arith) (omega arith) (omega arith)
 
   pub upper-sized : b .low < 3_506_557_898 →
       Sized (branchOf b minusLnA2 (cubicOf (zOf b)) (straightOf b)) 2_820_000_000 2_820_000_000
   upper-sized h =
       branch-cases (λ e. Sized e 2_820_000_000 2_820_000_000) b minusLnA2 (cubicOf (zOf b)) (straightOf b)
-      (λ p q. transition-sized h p) (λ p. straight-sized (omega arith)) (λ p q. any-span (transition-sized h p) (straight-sized q))
+      (λ p q. transition-sized h p) (λ p. straight-sized (omega arith))
+      (λ p q. any-span (transition-sized h p) (straight-sized q))
 
   pub curve-sized : Sized (curveOf b) 2_820_000_000 2_820_000_000
   unfolding curveOf
   curve-sized =
-      branch-cases (λ e. Sized e 2_820_000_000 2_820_000_000) b minusLnA1 (exactly 0) (branchOf b minusLnA2 (cubicOf (zOf b)) (straightOf b))
+      branch-cases (λ e. Sized e 2_820_000_000 2_820_000_000) b minusLnA1 (exactly 0)
+      (branchOf b minusLnA2 (cubicOf (zOf b)) (straightOf b))
       (λ p q. none) (λ p. upper-sized (omega arith)) (λ p q. any-span none (upper-sized q))
     where
       none : Sized (exactly 0) 2_820_000_000 2_820_000_000
@@ -207,22 +216,31 @@ cubic-tiny z =
     let square = product-sized z z 1 1 (omega arith) (omega arith) in
     let cube = product-sized square z 1 1 (omega arith) (omega arith) in
     sized-wider
-    (sum-sized (product-sized c-sized square 1 1 (omega arith) (omega arith)) (product-sized d-sized cube 1 1 (omega arith) (omega arith)))
+    (sum-sized (product-sized c-sized square 1 1 (omega arith) (omega arith))
+    (product-sized d-sized cube 1 1 (omega arith) (omega arith)))
     (omega arith) (omega arith)
 
 module _ {b : Ends} {most : ℕ} (n : Sized b 4 most) where
   z-narrow : b .low < 3_506_557_898 → 2_407_945_608 ≤ b .high → Sized (zOf b) 5 1_098_612_290
   unfolding zOf
-  z-narrow h k = let o = n .order in let w = n .narrow in record { order = omega arith; narrow = omega arith; small = omega arith }
+  z-narrow h k =
+      let o = n .order in let w = n .narrow in record { order = omega arith; narrow = omega arith; small = omega arith }
 
   transition-narrow : b .low < 3_506_557_898 → 2_407_945_608 ≤ b .high → Sized (cubicOf (zOf b)) 20 405_465_120
   transition-narrow h k =
-      cubic-sized 5 11 20 8 10 (record { square = omega arith; cube = omega arith; first = omega arith; second = omega arith })
+      cubic-sized 5 11 20 8 10 (record {
+        square =
+            omega arith;
+        cube = omega arith;
+        first = omega arith;
+        second = omega arith;
+      })
       (z-narrow h k)
 
   straight-narrow : b .low < 2_407_945_609 → Sized (straightOf b) 7 2_820_000_000
   unfolding straightOf
-  straight-narrow h = let o = n .order in let w = n .narrow in record { order = omega arith; narrow = omega arith; small = omega arith }
+  straight-narrow h =
+      let o = n .order in let w = n .narrow in record { order = omega arith; narrow = omega arith; small = omega arith }
 
   -- at ln 0.09, where the two branches meet
   z-from : b .low < 2_407_945_609 → From (zOf b) 1_098_612_285
@@ -235,11 +253,14 @@ module _ {b : Ends} {most : ℕ} (n : Sized b 4 most) where
 
   straight-near : 2_407_945_608 ≤ b .high → b .low < 2_407_945_609 → Sized (straightOf b) 7 405_465_120
   unfolding straightOf
-  straight-near h k = let o = n .order in let w = n .narrow in record { order = omega arith; narrow = omega arith; small = omega arith }
+  straight-near h k =
+      let o = n .order in let w = n .narrow in record { order = omega arith; narrow = omega arith; small = omega arith }
 
-  meeting : 2_407_945_608 ≤ b .high → b .low < 2_407_945_609 → Sized (spanOf (cubicOf (zOf b)) (straightOf b)) 21 405_465_120
+  meeting : 2_407_945_608 ≤ b .high → b .low < 2_407_945_609 → Sized
+      (spanOf (cubicOf (zOf b)) (straightOf b)) 21 405_465_120
   meeting h k =
-      span-sized (transition-narrow (omega arith) h) (straight-near h k) 405_465_099 405_465_120 21 (cubic-from (z-from k)) straight-from
+      span-sized (transition-narrow (omega arith) h) (straight-near h k) 405_465_099 405_465_120 21
+      (cubic-from (z-from k)) straight-from
       (omega arith) (omega arith) (omega arith)
 
   upper-narrow : b .low < 3_506_557_898 → Sized (branchOf b minusLnA2 (cubicOf (zOf b)) (straightOf b)) 21 2_820_000_000
@@ -252,20 +273,24 @@ module _ {b : Ends} {most : ℕ} (n : Sized b 4 most) where
   -- at ln 0.03, where only the first and the middle branch are near
   z-tiny : 3_506_557_897 ≤ b .high → b .low < 3_506_557_898 → Sized (zOf b) 5 5
   unfolding zOf
-  z-tiny h k = let o = n .order in let w = n .narrow in record { order = omega arith; narrow = omega arith; small = omega arith }
+  z-tiny h k =
+      let o = n .order in let w = n .narrow in record { order = omega arith; narrow = omega arith; small = omega arith }
 
   start : 3_506_557_897 ≤ b .high → b .low < 3_506_557_898 →
       Sized (spanOf (exactly 0) (branchOf b minusLnA2 (cubicOf (zOf b)) (straightOf b))) 4 4
   start h k =
       branch-cases (λ e. Sized (spanOf (exactly 0) e) 4 4) b minusLnA2 (cubicOf (zOf b)) (straightOf b)
-      (λ p q. span-sized (exactly-sized 0 0 (omega arith)) (cubic-tiny (z-tiny h k)) 0 4 4 (record { least = omega arith }) (record { least = omega arith }) (omega arith) (omega arith) (omega arith))
+      (λ p q. span-sized (exactly-sized 0 0 (omega arith)) (cubic-tiny (z-tiny h k)) 0 4 4
+      (record { least = omega arith }) (record { least = omega arith }) (omega arith) (omega arith) (omega arith))
       (λ p. absurd (omega arith)) (λ p q. absurd (omega (arith, n .narrow)))
 
   pub curve-narrow : Sized (curveOf b) 21 2_820_000_000
   unfolding curveOf
   curve-narrow =
-      branch-cases (λ e. Sized e 21 2_820_000_000) b minusLnA1 (exactly 0) (branchOf b minusLnA2 (cubicOf (zOf b)) (straightOf b))
-      (λ p q. sized-wider (exactly-sized 0 0 (omega arith)) (omega arith) (omega arith)) (λ p. upper-narrow (omega (arith, n .order)))
+      branch-cases (λ e. Sized e 21 2_820_000_000) b minusLnA1 (exactly 0)
+      (branchOf b minusLnA2 (cubicOf (zOf b)) (straightOf b))
+      (λ p q. sized-wider (exactly-sized 0 0 (omega arith)) (omega arith) (omega arith))
+      (λ p. upper-narrow (omega (arith, n .order)))
       (λ p q. sized-wider (start p q) (omega arith) (omega arith))
 
 -- ---- the nonlinear part
@@ -274,7 +299,8 @@ low-sized : Sized minusLnLow 1 510_825_624
 low-sized = record { order = omega arith; narrow = omega arith; small = omega arith }
 
 -- the slope times a curve that is at most w wide, k + 1 wide
-nonlinear-by : {s : SiteRow} {v : ℕ} (b : Ends) → SiteLimits s → 1_800 ≤ v → (w k : ℕ) → Sized (curveOf b) w 2_820_000_000 →
+nonlinear-by : {s : SiteRow} {v : ℕ} (b : Ends) → SiteLimits s → 1_800 ≤ v → (w k : ℕ) → Sized
+    (curveOf b) w 2_820_000_000 →
     900_000_000 * w + 2_820_000_000 * 6 ≤ k * 1_000_000_000 → MotionSized (nonlinearOf s v b) (k + 6) 2_538_000_001
 unfolding nonlinearOf
 nonlinear-by b l slow w k c h =

@@ -20,14 +20,15 @@ use Rattle.boore_atkinson.specs.Tables.{Total, Row, pga}
 use Rattle.boore_atkinson.specs.Rock.{sumOfSquares}
 use Rattle.boore_atkinson.specs.Rows.{siteParts, distanceParts, magnitudeParts, totalParts}
 use Rattle.boore_atkinson.specs.Constants.{minusLnLow, minusLnA1, minusLnA2, overSlow, overFast, cOver, dOver}
-use Rattle.boore_atkinson.specs.Evaluation.{exactly, kmOf, effectiveOf, spreadOf, fallOf, levelOf, magnitudeOf, rockOf, belowOf, linearOf, slowSlopeOf, fastSlopeOf, slopeOf, zOf, cubicOf, straightOf, branchOf, curveOf, nonlinearOf, endsOf, plusOf, medianOf, sigmaOf}
+use Rattle.boore_atkinson.specs.Evaluation.{exactly, kmOf, effectiveOf, spreadOf, fallOf, levelOf, magnitudeOf, rockOf, belowOf, linearOf, slowSlopeOf, fastSlopeOf, slopeOf, zOf, cubicOf, branchOf, curveOf, nonlinearOf, endsOf, plusOf, medianOf, sigmaOf}
 
 pub effective-is : (d h : ℕ) {k : ℕ} {e : Ends} → k ≡ rootOf (sumOfSquares d h) → e ≡ lnOf (sumOfSquares d h) 10_000 →
     record { ln = e; km = record { low = k * 78_125 / 1_024; high = (k + 1) * 78_125 / 1_024 + 1 } } ≡ effectiveOf d h
 unfolding effectiveOf kmOf
 effective-is d h root ln = rw (root, ln) refl
 
-pub fall-is : (r : DistanceRow) (m : ℕ) (s : EffectiveDistance) {n : ℕ} {a b f : Ends} → n ≡ spreadOf r m → a ≡ multipleOf n (s .ln) →
+pub fall-is : (r : DistanceRow) (m : ℕ) (s : EffectiveDistance) {n : ℕ} {a b f : Ends} → n ≡ spreadOf r m →
+    a ≡ multipleOf n (s .ln) →
     b ≡ multipleOf (200 * r .3) (s .km) → f ≡ sumOf a b → f ≡ fallOf r m s
 unfolding fallOf
 fall-is r m s n a b f = rw (f, a, b, n) refl
@@ -35,22 +36,34 @@ fall-is r m s n a b f = rw (f, a, b, n) refl
 module _ (r : MagnitudeRow) (m mechanism : ℕ) {e : Exact} (level : e ≡ levelOf r mechanism) where
   -- up to the hinge magnitude, and above it
   pub under-is : m ≤ r .11 →
-      record { gain = e .gain; loss = e .loss + 100 * (r .8 * (r .11 - m)) + r .9 * ((r .11 - m) * (r .11 - m)) } ≡ magnitudeOf r m mechanism
+      record {
+        gain = e .gain;
+        loss = e .loss + 100 * (r .8 * (r .11 - m)) + r .9 *
+            ((r .11 - m) * (r .11 - m));
+      } ≡ magnitudeOf r m mechanism
   unfolding magnitudeOf
   under-is h = rw (le-leb m (r .11) h, level) refl
 
-  pub over-is : r .11 < m → record { gain = e .gain + 100 * (r .10 * (m - r .11)); loss = e .loss } ≡ magnitudeOf r m mechanism
+  pub over-is : r .11 < m → record {
+    gain = e .gain + 100 * (r .10 * (m - r .11));
+    loss = e .loss;
+  } ≡ magnitudeOf r m mechanism
   unfolding magnitudeOf
   over-is h = rw (lt-leb m (r .11) h, level) refl
 
-pub rock-is : (r : DistanceRow) (q : MagnitudeRow) (m : ℕ) (s : EffectiveDistance) (mechanism : ℕ) {f : Ends} {g : Exact} →
+pub rock-is : (r : DistanceRow) (q : MagnitudeRow) (m : ℕ) (s : EffectiveDistance)
+    (mechanism : ℕ) {f : Ends} {g : Exact} →
     f ≡ fallOf r m s → g ≡ magnitudeOf q m mechanism →
-    record { gain = exactly (g .gain + 10_000 * r .3); loss = record { low = g .loss + f .low; high = g .loss + f .high } } ≡ rockOf r q m s mechanism
+    record {
+      gain = exactly (g .gain + 10_000 * r .3);
+      loss = record { low = g .loss + f .low; high = g .loss + f .high };
+    } ≡ rockOf r q m s mechanism
 unfolding rockOf
 rock-is r q m s mechanism f g = rw (f, g) refl
 
 pub below-is : (m d mechanism : ℕ) {r : DistanceRow} {q : MagnitudeRow} {s : EffectiveDistance} {a : Motion} →
-    r ≡ distanceParts (pga .distance) → q ≡ magnitudeParts (pga .magnitude) → s ≡ effectiveOf d (r .4) → a ≡ rockOf r q m s mechanism →
+    r ≡ distanceParts (pga .distance) → q ≡ magnitudeParts (pga .magnitude) → s ≡ effectiveOf d (r .4) →
+    a ≡ rockOf r q m s mechanism →
     record { low = a .loss .low - a .gain .low; high = a .loss .high - a .gain .low } ≡ belowOf m d mechanism
 unfolding belowOf
 below-is m d mechanism r q s a = rw (a, s, r, q) refl
@@ -58,16 +71,19 @@ below-is m d mechanism r q s a = rw (a, s, r, q) refl
 -- ---- the site term
 
 module _ (s : SiteRow) (v : ℕ) {e n : Ends} (none : n ≡ exactly 0) where
-  pub linear-slow : v < 7_600 → e ≡ multipleOf (20_000 * s .0) (lnOf 7_600 v) → record { gain = e; loss = n } ≡ linearOf s v
+  pub linear-slow : v < 7_600 → e ≡ multipleOf (20_000 * s .0) (lnOf 7_600 v) →
+      record { gain = e; loss = n } ≡ linearOf s v
   unfolding linearOf
   linear-slow h term = rw (lt-ltb v 7_600 h, term, none) refl
 
-  pub linear-fast : 7_600 ≤ v → e ≡ multipleOf (20_000 * s .0) (lnOf v 7_600) → record { gain = n; loss = e } ≡ linearOf s v
+  pub linear-fast : 7_600 ≤ v → e ≡ multipleOf (20_000 * s .0) (lnOf v 7_600) →
+      record { gain = n; loss = e } ≡ linearOf s v
   unfolding linearOf
   linear-fast h term = rw (le-ltb v 7_600 h, term, none) refl
 
 pub slow-is : (s : SiteRow) (v : ℕ) {l ratio term b2 n : Ends} → l ≡ lnOf 3_000 v → ratio ≡ productOf l overSlow →
-    term ≡ multipleOf (20_000 * (s .1 - 10 * s .2)) ratio → b2 ≡ exactly (10_000_000 * s .2) → n ≡ sumOf term b2 → n ≡ slowSlopeOf s v
+    term ≡ multipleOf (20_000 * (s .1 - 10 * s .2)) ratio → b2 ≡ exactly (10_000_000 * s .2) → n ≡ sumOf term b2 →
+    n ≡ slowSlopeOf s v
 unfolding slowSlopeOf
 slow-is s v l ratio term b2 n = rw (n, term, b2, ratio, l) refl
 
@@ -100,7 +116,8 @@ z-is b {low} el eh =
     let same : minusLnA1 .low - low ≡ minusLnA1 .low - b .high = omega (arith, el) in
     rw (same, eh) refl
 
-pub cubic-is : (z : Ends) {square a cube b q : Ends} → square ≡ productOf z z → a ≡ productOf cOver square → cube ≡ productOf square z →
+pub cubic-is : (z : Ends) {square a cube b q : Ends} → square ≡ productOf z z → a ≡ productOf cOver square →
+    cube ≡ productOf square z →
     b ≡ productOf dOver cube → q ≡ sumOf a b → q ≡ cubicOf z
 unfolding cubicOf
 cubic-is z square a cube b q = rw (q, a, b, cube, square) refl
@@ -114,7 +131,8 @@ module _ (b t A B : Ends) {r : Ends} where
   unfolding branchOf
   branch-below-is h e = rw (lt-leb (t .low) (b .high) h) e
 
-  pub branch-both-is : {x y : Ends} → t .low ≤ b .high → b .low < t .high → x ≡ A → y ≡ B → r ≡ spanOf x y → r ≡ branchOf b t A B
+  pub branch-both-is : {x y : Ends} → t .low ≤ b .high → b .low < t .high → x ≡ A → y ≡ B → r ≡ spanOf x y →
+      r ≡ branchOf b t A B
   unfolding branchOf
   branch-both-is h k ex ey e = rw (le-leb (t .low) (b .high) h, lt-ltb (b .low) (t .high) k, ← ex, ← ey) e
 
@@ -125,15 +143,19 @@ nonlinear-is s v b n q gain loss = rw (gain, loss, n, q) refl
 
 -- ---- the sum
 
-pub median-is : (r : Row) (m d v mechanism : ℕ) {c : DistanceRow} {q : MagnitudeRow} {s : SiteRow} {effective : EffectiveDistance} {b : Ends}
+pub median-is : (r : Row) (m d v mechanism : ℕ) {c : DistanceRow} {q : MagnitudeRow} {s : SiteRow} {effective :
+    EffectiveDistance} {b : Ends}
     {rock linear nonlinear : Motion} → c ≡ distanceParts (r .distance) → q ≡ magnitudeParts (r .magnitude) →
-    s ≡ siteParts (r .site) → effective ≡ effectiveOf d (c .4) → rock ≡ rockOf c q m effective mechanism → linear ≡ linearOf s v →
+    s ≡ siteParts (r .site) → effective ≡ effectiveOf d (c .4) → rock ≡ rockOf c q m effective mechanism →
+    linear ≡ linearOf s v →
     b ≡ belowOf m d mechanism → nonlinear ≡ nonlinearOf s v b →
     endsOf (plusOf (plusOf rock linear) nonlinear) ≡ medianOf r m d v mechanism
 unfolding medianOf
-median-is r m d v mechanism c q s effective rock linear b nonlinear = rw (rock, linear, nonlinear, effective, b, c, q, s) refl
+median-is r m d v mechanism c q s effective rock linear b nonlinear =
+    rw (rock, linear, nonlinear, effective, b, c, q, s) refl
 
-pub sigma-is : (t : Total) (mechanism : ℕ) {r : TotalRow} {z : ℕ} → r ≡ totalParts t → z ≡ cond (eqb mechanism 9) (r .0) (r .1) →
+pub sigma-is : (t : Total) (mechanism : ℕ) {r : TotalRow} {z : ℕ} → r ≡ totalParts t → z ≡ cond (eqb mechanism 9) (r .0)
+    (r .1) →
     betweenOf (1_000_000 * z) 0 (1_000_000 * z) 0 ≡ sigmaOf t mechanism
 unfolding sigmaOf
 sigma-is t mechanism row z = rw (z, row) refl

@@ -1,10 +1,9 @@
--- The thresholds of the nonlinear part in order: a pair that reaches above ln 0.09 reaches above ln 0.03, at every fineness.
--- So one branch within the other reaches what document 01's three branches reach.
-use mathlib.Core.Bool.{not}
+-- The thresholds of the nonlinear part in order: a pair that reaches above ln 0.09 reaches above ln 0.03, at every
+-- fineness. So one branch within the other reaches what document 01's three branches reach.
 use Prim.Native.Nat.{ℕ, _≤_}
 use native.Mathlib.Omega.{arith}
 use lib.Dec.{T}
-use Rattle.exact.specs.Fraction.{leQ, _≤q_, _<q_}
+use Rattle.exact.specs.Fraction.{_≤q_, _<q_}
 use Rattle.exact.specs.Pair.{Pair, reachesAbove}
 use Rattle.exact.specs.Logarithm.{lnPair}
 use Rattle.exact.specs.Formula.{ln, eval}
@@ -16,7 +15,8 @@ lower-low : (n : ℕ) → 1 ≤ n → eval n (ln a1 100) .low ≤q eval n (ln a2
 unfolding eval lnPair
 lower-low n h = neg-anti (upper-shorter n {a = 100} {c = 9} {b = 3} (omega arith) (omega arith) (omega arith) h)
 
-pub reaches-both : (n : ℕ) → 1 ≤ n → (P : Pair) → T (reachesAbove P (eval n (ln a2 100))) → T (reachesAbove P (eval n (ln a1 100)))
+pub reaches-both : (n : ℕ) → 1 ≤ n → (P : Pair) → T (reachesAbove P (eval n (ln a2 100))) → T
+    (reachesAbove P (eval n (ln a1 100)))
 unfolding reachesAbove
 reaches-both n h P t =
     let above : eval n (ln a2 100) .low <q P .high = record { lt = t } in

@@ -1,5 +1,5 @@
--- The site term's constant numbers, as pairs of units of 10^-9. proofs/Constants shows, by one computed test, that they hold
--- what they stand for.
+-- The site term's constant numbers, as pairs of units of 10^-9. proofs/Constants shows, by one computed test, that they
+-- hold what they stand for.
 use Prim.Native.Nat.{ℕ}
 use Rattle.logarithm.specs.declared.Ends.{Ends}
 

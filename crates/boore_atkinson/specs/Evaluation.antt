@@ -1,6 +1,6 @@
 -- What median and sigma compute, in whole numbers of units of 10^-9. A change of the way of computing swaps these
 -- definitions behind their names; callers go by the laws of proofs/Laws, and never by this text.
-use mathlib.Core.Bool.{Bool, cond}
+use mathlib.Core.Bool.{cond}
 use Prim.Native.Nat.{ℕ, _+_, _*_, _-_, _/_, min, max}
 use lib.Dec.{eqb, leb, ltb}
 use Rattle.signed.specs.declared.Ends as signed
@@ -69,7 +69,9 @@ rockOf r q m s mechanism =
 -- −p
 unfoldable pub belowOf : ℕ → ℕ → ℕ → Ends
 belowOf m d mechanism =
-    let a : Motion = rockOf (distanceParts (pga .distance)) (magnitudeParts (pga .magnitude)) m (effectiveOf d (pga .distance .h)) mechanism in
+    let a : Motion =
+    rockOf (distanceParts (pga .distance)) (magnitudeParts (pga .magnitude)) m
+    (effectiveOf d (pga .distance .h)) mechanism in
     record { low = a .loss .low - a .gain .low; high = a .loss .high - a .gain .low }
 
 -- ---- the site term
@@ -134,7 +136,9 @@ plusOf a b = record { gain = sumOf (a .gain) (b .gain); loss = sumOf (a .loss) (
 
 unfoldable pub medianOf : Row → ℕ → ℕ → ℕ → ℕ → signed.Ends
 medianOf r m d v mechanism =
-    let rock : Motion = rockOf (distanceParts (r .distance)) (magnitudeParts (r .magnitude)) m (effectiveOf d (r .distance .h)) mechanism in
+    let rock : Motion =
+    rockOf (distanceParts (r .distance)) (magnitudeParts (r .magnitude)) m
+    (effectiveOf d (r .distance .h)) mechanism in
     let s : SiteRow = siteParts (r .site) in
     endsOf (plusOf (plusOf rock (linearOf s v)) (nonlinearOf s v (belowOf m d mechanism)))
 

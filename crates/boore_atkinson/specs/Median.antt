@@ -9,8 +9,8 @@ use Rattle.boore_atkinson.specs.Tables.{Total, Row, pga}
 use Rattle.boore_atkinson.specs.Rock.{onRock}
 use Rattle.boore_atkinson.specs.SiteTerm.{linearPart, bnl, nonlinearPart}
 
--- "Let p be ln of the rock acceleration: the PGA row with the scenario's own mechanism, no site term. Caption 6 names Rref 5
--- for it; the text equates it with PGA, and 1 km is used"
+-- "Let p be ln of the rock acceleration: the PGA row with the scenario's own mechanism, no site term. Caption 6 names
+-- Rref 5 for it; the text equates it with PGA, and 1 km is used"
 unfoldable pub p : ℕ → ℕ → ℕ → Formula
 p magnitude projectionDistance mechanism = onRock pga magnitude projectionDistance mechanism
 

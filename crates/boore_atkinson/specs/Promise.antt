@@ -1,5 +1,5 @@
--- What is promised of the ends of median, sigma and nonlinear part, whatever the engine computes. proofs/Laws shows it of
--- `medianOf`, `sigmaOf` and `nonlinearEndsOf`, which the contracts name; nobody has to read those to believe it.
+-- What is promised of the ends of median, sigma and nonlinear part, whatever the engine computes. proofs/Laws shows it
+-- of `medianOf`, `sigmaOf` and `nonlinearEndsOf`, which the contracts name; nobody has to read those to believe it.
 use mathlib.Core.Path.{_≡_}
 use Prim.Native.Nat.{ℕ, _+_, _^_, _≤_, _<_}
 use lib.IntN.{pos, negℤ, _+ℤ_}
@@ -48,7 +48,8 @@ pub record MedianEnds (r : Row) (magnitude projectionDistance velocity mechanism
   pub narrow : e .high ≤ℤ (e .low +ℤ pos medianWidth)
   pub small : SmallerThan (2 ^ 53) e
 
--- e encloses the nonlinear part for every p of a pair, at every fineness, is narrow where p is, and has ends that a double equals
+-- e encloses the nonlinear part for every p of a pair, at every fineness, is narrow where p is, and has ends that a
+-- double equals
 pub record NonlinearEnds (s : SiteAmplification) (velocity : ℕ) (b : natural.Ends) (e : Ends) : Type 0 where
   pub encloses : (p : Fraction) → p ∈ ends (negℤ (pos (b .high))) (negℤ (pos (b .low))) →
       Encloses (ends (e .low) (e .high)) (nonlinearPart (bnl s velocity) (stated p))

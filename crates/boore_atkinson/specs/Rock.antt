@@ -58,7 +58,8 @@ unfoldable pub magnitudeTerm : MagnitudeScaling → ℕ → ℕ → Fraction
 magnitudeTerm r magnitude mechanism =
     let away : Fraction = hundredths magnitude -q hundredths (r .Mh) in
     cond (leb magnitude (r .Mh))
-    (hundredThousandths (e r mechanism) +q hundredThousandths (r .e5) *q away +q hundredThousandths (r .e6) *q (away *q away))
+    (hundredThousandths (e r mechanism) +q hundredThousandths (r .e5) *q away +q hundredThousandths (r .e6) *q
+    (away *q away))
     (hundredThousandths (e r mechanism) +q hundredThousandths (r .e7) *q away)
 
 -- the motion of a row with no site term

@@ -1,5 +1,5 @@
 -- The code's rows: a row of a table by unsigned parts, and the sizes that the evaluation rests on.
-use Prim.Native.Nat.{ℕ, _+_, _*_, _≤_}
+use Prim.Native.Nat.{_+_, _*_, _≤_}
 use Rattle.signed.specs.Whole.{up, down}
 use Rattle.boore_atkinson.specs.declared.table.SiteRow.{SiteRow}
 use Rattle.boore_atkinson.specs.declared.table.DistanceRow.{DistanceRow}

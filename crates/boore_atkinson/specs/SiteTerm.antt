@@ -18,16 +18,18 @@ b2Of s = s .b2 over 100
 unfoldable pub linearPart : SiteAmplification → ℕ → Formula
 linearPart s velocity = stated (s .blin over 1_000) ⊗ ln velocity (10 * vref)
 
--- "Slope bnl: b1 up to 180; up to 300, (b1 − b2) ln(V/300) / ln(180/300) + b2; below 760, b2 ln(V/760) / ln(300/760); from
--- 760 on, 0. (Turn both logarithms over, so that the divisor is above zero.)" (equations 13a to 13d)
+-- "Slope bnl: b1 up to 180; up to 300, (b1 − b2) ln(V/300) / ln(180/300) + b2; below 760, b2 ln(V/760) / ln(300/760);
+-- from 760 on, 0. (Turn both logarithms over, so that the divisor is above zero.)" (equations 13a to 13d)
 unfoldable pub bnl : SiteAmplification → ℕ → Formula
 bnl s velocity =
     cond (leb velocity (10 * v1)) (stated (b1Of s))
-    (cond (leb velocity (10 * v2)) (stated (b1Of s -q b2Of s) ⊗ ln (10 * v2) velocity ⊘ ln (10 * v2) (10 * v1) ⊕ stated (b2Of s))
+    (cond (leb velocity (10 * v2)) (stated (b1Of s -q b2Of s) ⊗ ln (10 * v2) velocity ⊘ ln (10 * v2) (10 * v1) ⊕ stated
+    (b2Of s))
     (cond (ltb velocity (10 * vref)) (stated (b2Of s) ⊗ ln (10 * vref) velocity ⊘ ln (10 * vref) (10 * v2))
     (stated zeroQ)))
 
--- "x = ln 3", and "y = bnl ln 1.5" (equations 11 and 12: Δx = ln(a2/a1) = ln(9/3), Δy = bnl ln(a2/pga_low) = bnl ln(9/6))
+-- "x = ln 3", and "y = bnl ln 1.5" (equations 11 and 12: Δx = ln(a2/a1) = ln(9/3), Δy = bnl ln(a2/pga_low) = bnl
+-- ln(9/6))
 unfoldable pub x : Formula
 x = ln 3 1
 
@@ -56,9 +58,9 @@ transition slope p =
 unfoldable pub highPart : Formula → Formula → Formula
 highPart slope p = slope ⊗ (p ⊖ ln 1 10)
 
--- the nonlinear part, its branches "Up to ln 0.03", "Up to ln 0.09" and "Above", on the logarithm p of the rock acceleration.
--- A pair that reaches above ln 0.09 reaches above ln 0.03 (proofs/Thresholds), so that one branch within the other reaches
--- what the three reach
+-- the nonlinear part, its branches "Up to ln 0.03", "Up to ln 0.09" and "Above", on the logarithm p of the rock
+-- acceleration. A pair that reaches above ln 0.09 reaches above ln 0.03 (proofs/Thresholds), so that one branch within
+-- the other reaches what the three reach
 unfoldable pub nonlinearPart : Formula → Formula → Formula
 nonlinearPart slope p =
     ifUpTo p (ln a1 100) (lowPart slope) (ifUpTo p (ln a2 100) (transition slope p) (highPart slope p))

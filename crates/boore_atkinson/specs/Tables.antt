@@ -1,6 +1,6 @@
--- Tables 3, 4, 6, 7 and the totals of Table 8 of source document 003, with the printed digits; periods in thousandths of a
--- second, 0 for the row PGA. The row PGV, which is printed before it, is left out: "Peak velocity .. lie outside it". (The
--- transcript has lost Table 4's names and Table 8's periods.)
+-- Tables 3, 4, 6, 7 and the totals of Table 8 of source document 003, with the printed digits; periods in thousandths
+-- of a second, 0 for the row PGA. The row PGV, which is printed before it, is left out: "Peak velocity .. lie outside
+-- it". (The transcript has lost Table 4's names and Table 8's periods.)
 use mathlib.Core.List.{List, [], _∷_}
 use Prim.Native.Nat.{ℕ}
 use lib.IntN.{ℤ, pos, negℤ}

@@ -1,7 +1,7 @@
 -- Sizes of the products that the median forms.
 use mathlib.Core.Bool.{Bool, true, false, cond}
 use mathlib.Core.List.{[], _∷_}
-use Prim.Native.Nat.{ℕ, _+_, _*_, _-_, _^_, _≤_, _<_, min}
+use Prim.Native.Nat.{ℕ, _+_, _*_, _-_, _≤_, min}
 use native.Mathlib.Nat.{mul-le-mul, mul-le-mul-left}
 use native.Mathlib.Omega.{arith}
 use Rattle.logarithm.specs.Promise.{LnDomain}
@@ -43,8 +43,12 @@ module _ {r : Row} {m : ℕ} (l : RowLimits r) (high : m ≤ 790) where
   pub losses-small : {d : ℕ} → d ≤ 17_500 → lossesOf r m d ≤ 40_000_000_000
   unfolding lossesOf
   losses-small near =
-      omega
-      (arith, alpha-small (alpha-domain (l .alpha1-loss) (l .alpha2-loss) (l .alpha3-loss) high), mul-le-mul (l .gamma) near)
+      omega (
+        arith,
+        alpha-small (alpha-domain (l .alpha1-loss) (l .alpha2-loss) (l .alpha3-loss) high),
+        mul-le-mul
+            (l .gamma) near,
+      )
 
 -- β2 M stays below β1, and β1 + β2 M at most 2
 pub record BetaBounds (r : Row) (m : ℕ) : Type 0 where
@@ -74,4 +78,5 @@ distance-sized {r} {m} l low high near =
 pub site-sized : {r : Row} {v : ℕ} → RowLimits r → 4_500 ≤ v → Sized (siteTermOf r v) 4 31_500_000_001
 unfolding siteTermOf
 site-sized {r} l slow =
-    multiple-sized (20_000 * r .8) (ln-sized (site-domain slow)) 3 31_500_000_000 (omega (arith, l .xi)) (omega (arith, l .xi))
+    multiple-sized (20_000 * r .8) (ln-sized (site-domain slow)) 3 31_500_000_000 (omega (arith, l .xi))
+    (omega (arith, l .xi))

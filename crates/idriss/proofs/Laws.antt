@@ -1,29 +1,21 @@
 -- What `medianOf` promises (specs/Promise).
-use mathlib.Core.Path.{_≡_, refl}
-use mathlib.Core.Bool.{Bool, true, false}
-use Prim.Native.Nat.{ℕ, _+_, _*_, _-_, _^_, _≤_, _<_, min, max}
-use native.Mathlib.Nat.{le-of-lt}
-use native.Mathlib.Decide.{decLt}
+use mathlib.Core.Bool.{Bool}
+use Prim.Native.Nat.{ℕ, _+_, _*_, _-_, _^_, _≤_, min}
 use native.Mathlib.Omega.{arith}
-use borrow.Author.Tests.{lt-ltb, le-ltb, eqb-true}
-use lib.Dec.{ltb, eqb}
 use lib.IntN.{ℤ, pos}
 use Rattle.signed.specs.declared.Ends.{Ends}
 use Rattle.signed.specs.Evaluation.{betweenOf}
 use Rattle.signed.specs.Whole.{up, down}
 use Rattle.signed.proofs.Laws.{between-small}
-use Rattle.exact.specs.Fraction.{Fraction, _over_, _+q_, _-q_, _*q_}
+use Rattle.exact.specs.Fraction.{_over_, _-q_, _*q_}
 use Rattle.exact.specs.Pair.{_∈_}
 use Rattle.exact.specs.Formula.{ends}
 use Rattle.exact.proofs.FractionLaws.{Is, over-Is, add-Is, mul-Is, neg-Is, is-natural, over-above, over-below}
 use Rattle.exact.proofs.Points.{Points, value, Sound}
-use Rattle.exact.proofs.UnitLaws.{Lies, lies-ends, lies-natural, lies-wider, lies-stated, lies-sum, lies-difference}
+use Rattle.exact.proofs.UnitLaws.{Lies, lies-natural, lies-stated, lies-sum, lies-difference}
 use Rattle.logarithm.specs.declared.Ends as natural
-use Rattle.logarithm.specs.Evaluation.{lnOf}
 use Rattle.logarithm.proofs.Enclosure.{Known, encloses}
-use Rattle.outward.specs.Evaluation.{Sized, scale}
 use Rattle.outward.proofs.Laws.{Held, HeldBelow, multiple-held, minus-held, lies-between, narrow-between}
-use Rattle.idriss.specs.declared.table.Row as code
 use Rattle.idriss.specs.Tables.{Row, rowAt}
 use Rattle.idriss.specs.Median.{tenThousandths, hundredths, alphaPart, betaFactor, F, anelasticAndFaultPart, median}
 use Rattle.idriss.specs.Promise.{MedianDomain, medianWidth, MedianEnds}
@@ -66,7 +58,8 @@ module _ (r : Row) where
     linear-lies d mechanism =
         lies-stated
         (add-Is (mul-Is (over-below (r .γ) 10_000 (omega arith) (l .gamma-below)) (hundredths-Is d))
-        (mul-Is (over-above (r .φ) 100 (omega arith) (l .phi-above)) (over-Is (pos (F mechanism)) 1 (omega arith)))) _ _ (omega arith)
+        (mul-Is (over-above (r .φ) 100 (omega arith) (l .phi-above))
+        (over-Is (pos (F mechanism)) 1 (omega arith)))) _ _ (omega arith)
 
     -- β1 + β2 M
     beta-Is : {m : ℕ} → 450 ≤ m → m ≤ 790 → Is (betaFactor r m) (500 * betaOf (parts r) m) 0 10_000_000_000
@@ -117,7 +110,8 @@ module _ (r : Row) where
       median-held σ known =
           lies-between
           (lies-sum (lies-sum (lies-difference (alpha-lies high) (far-held known low high near)) (site-held known slow))
-          (linear-lies d mechanism)) gain (loss + far .high + site .high) gain (loss + far .low + site .low) (omega arith) (omega arith)
+          (linear-lies d mechanism)) gain (loss + far .high + site .high) gain (loss + far .low + site .low) (omega
+          arith) (omega arith)
 
       pub median-ends : MedianEnds r m d v mechanism (medianOf r m d v mechanism)
       unfolding median Sound medianOf
@@ -135,12 +129,21 @@ module _ (r : Row) where
                 narrow-between gain (loss + far .high + site .high) gain (loss + far .low + site .low) medianWidth
                 (omega (arith, far-sizes .narrow, site-sizes .narrow));
             small =
-                between-small (2 ^ 53) (omega (arith, gains)) (omega (arith, losses, far-sizes .small, site-sizes .small))
-                (omega (arith, gains)) (omega (arith, losses, far-sizes .order, far-sizes .small, site-sizes .order, site-sizes .small));
+                between-small (2 ^ 53) (omega (arith, gains))
+                (omega (arith, losses, far-sizes .small, site-sizes .small))
+                (omega (arith, gains)) (omega (
+                  arith,
+                  losses,
+                  far-sizes .order,
+                  far-sizes .small,
+                  site-sizes .order,
+                  site-sizes .small,
+                ));
           }
 
 -- the promise of the median, by any row of either table
 pub medianOf-promise : (third : Bool) {k m d v : ℕ} (mechanism : ℕ) → MedianDomain k m d v →
     MedianEnds (rowAt third k) m d v mechanism (medianOf (rowAt third k) m d v mechanism)
 medianOf-promise third {k} mechanism h =
-    median-ends (rowAt third k) (row-limits third k (h .row)) (h .magnitude-low) (h .magnitude-high) (h .near) (h .slow) mechanism
+    median-ends (rowAt third k) (row-limits third k (h .row)) (h .magnitude-low) (h .magnitude-high) (h .near)
+    (h .slow) mechanism

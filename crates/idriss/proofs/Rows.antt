@@ -21,8 +21,10 @@ use Rattle.idriss.specs.Evaluation.{parts, TableLimits}
 abbrev limits : Row → List (ℕ × ℕ)
 limits r =
     let p : code.Row = parts r in
-    (p .0, 120_000) ∷ (p .1, 120_000) ∷ (p .2, 20_000) ∷ (p .3, 20_000) ∷ (p .4, 1_000) ∷ (p .5, 1_000) ∷ (p .6, 30_500) ∷
-    (p .7 * 790 + 300_000, 100 * p .6) ∷ (100 * p .6, 2_000_000 + p .7 * 450) ∷ (p .8, 1_500) ∷ (p .9, 100) ∷ (p .10, 10) ∷
+    (p .0, 120_000) ∷ (p .1, 120_000) ∷ (p .2, 20_000) ∷ (p .3, 20_000) ∷ (p .4, 1_000) ∷ (p .5, 1_000) ∷
+    (p .6, 30_500) ∷
+    (p .7 * 790 + 300_000, 100 * p .6) ∷ (100 * p .6, 2_000_000 + p .7 * 450) ∷ (p .8, 1_500) ∷ (p .9, 100) ∷
+    (p .10, 10) ∷
     (down (r .β1), 0) ∷ (up (r .β2), 0) ∷ (up (r .ξ), 0) ∷ (up (r .γ), 0) ∷ (down (r .φ), 0) ∷ []
 
 in-order : (r : Row) → AllLe (limits r) → TableLimits r
@@ -58,8 +60,10 @@ both-tables false = tt
 
 pub row-limits : (third : Bool) (k : ℕ) → k < 22 → TableLimits (rowAt third k)
 unfolding rowAt
-row-limits true k h = in-order _ (all-le (limits (getD table3 k noRow)) (every-at test noRow 0 table3 (both-tables true) k h))
-row-limits false k h = in-order _ (all-le (limits (getD table2 k noRow)) (every-at test noRow 0 table2 (both-tables false) k h))
+row-limits true k h =
+    in-order _ (all-le (limits (getD table3 k noRow)) (every-at test noRow 0 table3 (both-tables true) k h))
+row-limits false k h =
+    in-order _ (all-le (limits (getD table2 k noRow)) (every-at test noRow 0 table2 (both-tables false) k h))
 
 -- ---- the row for a period is the one that the paper prints for it, by either table
 
@@ -75,7 +79,8 @@ pub row-printed : (magnitude period : ℕ) → among (0 ∷ idriss .periods) per
     rowFor magnitude period .period ≡ ownPeriod period
 unfolding rowFor
 row-printed magnitude T e =
-    eqb→eq _ _ (all-at (is-printed (takesTable3 magnitude)) (0 ∷ idriss .periods) T (all-printed (takesTable3 magnitude)) e)
+    eqb→eq _ _ (all-at (is-printed (takesTable3 magnitude)) (0 ∷ idriss .periods) T
+    (all-printed (takesTable3 magnitude)) e)
 
 -- ---- the code has both tables in one array, Table 3 after Table 2
 

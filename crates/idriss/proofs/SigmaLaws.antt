@@ -1,13 +1,12 @@
 -- What `sigmaOf` promises (specs/Promise).
-use mathlib.Core.Path.{_≡_, refl, sym, _∙_, ap}
+use mathlib.Core.Path.{_≡_, refl}
 use mathlib.Core.Bool.{Bool, true, false, cond}
 use Prim.Native.Nat.{ℕ, _+_, _*_, _^_, _≤_, _<_, min, max}
 use native.Mathlib.Decide.{decLt}
 use native.Mathlib.Omega.{arith}
-use borrow.Author.Tests.{lt-ltb, le-ltb, eqb-true}
-use lib.Dec.{ltb, eqb}
-use lib.IntN.{pos, _+ℤ_}
-use lib.Signed.{_≤ℤ_}
+use borrow.Author.Tests.{eqb-true}
+use lib.Dec.{eqb}
+use lib.IntN.{pos}
 use Rattle.signed.specs.declared.Ends.{Ends}
 use Rattle.signed.specs.Evaluation.{betweenOf}
 use Rattle.signed.specs.Whole.{up, down}
@@ -19,8 +18,6 @@ use Rattle.exact.proofs.FractionLaws.{over-Is, mul-Is}
 use Rattle.exact.proofs.Points.{Points, value, Sound}
 use Rattle.exact.proofs.UnitLaws.{Lies, lies-natural, lies-negated, lies-stated, lies-sum, lies-difference}
 use Rattle.logarithm.specs.declared.Ends as natural
-use Rattle.logarithm.specs.Promise.{LnDomain}
-use Rattle.logarithm.specs.Evaluation.{lnOf}
 use Rattle.logarithm.proofs.Enclosure.{Known, encloses}
 use Rattle.outward.proofs.Laws.{Held, HeldBelow, multiple-held, multiple-below, lies-between, narrow-between}
 use Rattle.idriss.specs.Tables.{ownPeriod}
@@ -49,7 +46,8 @@ constant = lies-stated (over-Is (pos 118) 100 (omega arith)) 1_180_000_000 0 (om
 magnitude-term : (m : ℕ) → Lies (pos 6 over 100 *q hundredths m) (600_000 * m) 0 (600_000 * m) 0
 unfolding up down
 magnitude-term m =
-    lies-stated (mul-Is (over-Is (pos 6) 100 (omega arith)) (over-Is (pos m) 100 (omega arith))) (600_000 * m) 0 (omega arith)
+    lies-stated (mul-Is (over-Is (pos 6) 100 (omega arith)) (over-Is (pos m) 100 (omega arith))) (600_000 * m) 0
+    (omega arith)
 
 module _ {t : ℕ} (l : Listed t) {σ : Points} (known : Known σ) where
   -- ln T from 1 s on, and its negative below
@@ -100,7 +98,8 @@ module _ (period magnitude : ℕ) (d : SigmaDomain period) where
   unfolding sigma value
   held-below h σ known =
       rw (own-held period)
-      (lies-between (lies-difference (lies-sum constant (term-below listed known h)) (magnitude-term (heldTo 500 750 magnitude)))
+      (lies-between (lies-difference (lies-sum constant (term-below listed known h))
+      (magnitude-term (heldTo 500 750 magnitude)))
       1_180_000_000 (m + term .high) 1_180_000_000 (m + term .low) (omega arith) (omega arith))
 
   held-above : 1_000 ≤ t → (σ : Points) → Known σ →
@@ -109,7 +108,8 @@ module _ (period magnitude : ℕ) (d : SigmaDomain period) where
   unfolding sigma value
   held-above h σ known =
       rw (own-held period)
-      (lies-between (lies-difference (lies-sum constant (term-held listed known h)) (magnitude-term (heldTo 500 750 magnitude)))
+      (lies-between (lies-difference (lies-sum constant (term-held listed known h))
+      (magnitude-term (heldTo 500 750 magnitude)))
       (1_180_000_000 + term .low) m (1_180_000_000 + term .high) m (omega arith) (omega arith))
 
   sound : Sound (sigma period magnitude)
@@ -123,15 +123,19 @@ module _ (period magnitude : ℕ) (d : SigmaDomain period) where
         | yes h ↦ rw (← (sigma-below period magnitude refl refl refl h)) (record {
           encloses = encloses sound (held-below h);
           narrow =
-              narrow-between 1_180_000_000 (m + term .high) 1_180_000_000 (m + term .low) sigmaWidth (omega (arith, s .narrow));
+              narrow-between 1_180_000_000 (m + term .high) 1_180_000_000 (m + term .low) sigmaWidth
+              (omega (arith, s .narrow));
           small =
-              between-small (2 ^ 53) (omega arith) (omega (arith, s .small)) (omega arith) (omega (arith, s .order, s .small));
+              between-small (2 ^ 53) (omega arith) (omega (arith, s .small)) (omega arith)
+              (omega (arith, s .order, s .small));
         })
         | no h ↦ rw (← (sigma-above period magnitude refl refl refl (omega arith))) (record {
           encloses = encloses sound (held-above (omega arith));
           narrow =
-              narrow-between (1_180_000_000 + term .low) m (1_180_000_000 + term .high) m sigmaWidth (omega (arith, s .narrow));
+              narrow-between (1_180_000_000 + term .low) m (1_180_000_000 + term .high) m sigmaWidth
+              (omega (arith, s .narrow));
           small =
-              between-small (2 ^ 53) (omega (arith, s .order, s .small)) (omega arith) (omega (arith, s .small)) (omega arith);
+              between-small (2 ^ 53) (omega (arith, s .order, s .small)) (omega arith) (omega (arith, s .small))
+              (omega arith);
         })
       ]

@@ -1,5 +1,5 @@
--- What is promised of the ends of median and sigma, whatever the engine computes. proofs/Laws and
--- proofs/SigmaLaws show it of `medianOf` and `sigmaOf`, which the contracts name; nobody has to read those two to believe it.
+-- What is promised of the ends of median and sigma, whatever the engine computes. proofs/Laws and proofs/SigmaLaws show
+-- it of `medianOf` and `sigmaOf`, which the contracts name; nobody has to read those two to believe it.
 use mathlib.Core.Path.{_≡_}
 use mathlib.Core.Bool.{true}
 use mathlib.Core.List.{_∷_}
@@ -15,8 +15,8 @@ use Rattle.idriss.specs.Tables.{Row}
 use Rattle.idriss.specs.Median.{median}
 use Rattle.idriss.specs.Sigma.{sigma}
 
--- the arguments of the median: a row of a table, and numbers within the limits of the model; any velocity above them, too, as
--- it counts as 1200 m/s
+-- the arguments of the median: a row of a table, and numbers within the limits of the model; any velocity above them,
+-- too, as it counts as 1200 m/s
 pub record MedianDomain (k magnitude ruptureDistance velocity : ℕ) : Type 0 where
   pub row : k < 22
   pub magnitude-low : idriss .magnitude .low ≤ magnitude

@@ -24,7 +24,8 @@ pub record Row : Type 0 where
   pub φ : ℤ
 
 abbrev row : ℕ → ℤ → ℤ → ℤ → ℤ → ℤ → ℤ → ℤ → ℤ → Row
-row period α1 α2 α3 β1 β2 ξ γ φ = record { period = period; α1 = α1; α2 = α2; α3 = α3; β1 = β1; β2 = β2; ξ = ξ; γ = γ; φ = φ }
+row period α1 α2 α3 β1 β2 ξ γ φ =
+    record { period = period; α1 = α1; α2 = α2; α3 = α3; β1 = β1; β2 = β2; ξ = ξ; γ = γ; φ = φ }
 
 -- Table 2: M up to and including 6.75
 abbrev pub table2 : List Row

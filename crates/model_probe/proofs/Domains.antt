@@ -1,17 +1,16 @@
 -- The fields of an accepted scenario are arguments of its model, and the answers by the test of acceptance.
 use mathlib.Core.Path.{_≡_, _∙_, sym}
 use mathlib.Core.Bool.{Bool, true, false}
-use mathlib.Core.Logic.{_⊎_, inl, inr}
+use mathlib.Core.Logic.{inl, inr}
 use Prim.Native.Nat.{ℕ, _≤_, _<_}
 use native.Mathlib.Omega.{arith}
-use borrow.Author.Tests.{eqb-true, lt-leb, le-leb, lt-ltb, le-ltb}
+use borrow.Author.Tests.{eqb-true}
 use lib.Dec.{eqb}
 use Rattle.signed.specs.declared.Ends.{Ends}
-use Rattle.logarithm.specs.declared.Ends as natural
 use Rattle.scenario.specs.declared.Scenario.{Scenario}
 use Rattle.scenario.specs.Refusal.{idriss, booreAtkinson, refusalOf}
 use Rattle.scenario.proofs.RefusalLaws.{Within, of-model}
-use Rattle.idriss.specs.Promise.{MedianDomain, SigmaDomain}
+use Rattle.idriss.specs.Promise.{MedianDomain}
 use Rattle.boore_atkinson.specs.Promise as second
 use Rattle.model_probe.specs.declared.ProbedEnds.{ProbedEnds}
 use Rattle.model_probe.specs.Probe.{noEnds, told, whereAccepted}
@@ -37,7 +36,8 @@ module _ (s : Scenario) {b : Bool} (says : b ≡ eqb (refusalOf s) 0) where
 
 -- ---- and what a model takes
 
-pub idriss-domain : {k : ℕ} (s : Scenario) → k < 22 → Within idriss s → MedianDomain k (s .magnitude) (s .distance) (s .velocity)
+pub idriss-domain : {k : ℕ} (s : Scenario) → k < 22 → Within idriss s → MedianDomain k (s .magnitude) (s .distance)
+    (s .velocity)
 idriss-domain s h w = record {
   row = h;
   magnitude-low = w .magnitude-low;

@@ -27,7 +27,8 @@ pub ln-sized : {a b : ℕ} → LnDomain a b → Sized (lnOf a b) lnWidth 21_000_
 ln-sized d = record { order = lnOf-order d; narrow = lnOf-promise d .narrow; small = lnOf-small d }
 
 -- (a − b)/b is at most m
-pub ln-sized-by : {a b : ℕ} → LnDomain a b → (m : ℕ) → (a - b) * 1_000_000_000 ≤ m * b → Sized (lnOf a b) lnWidth (m + lnWidth)
+pub ln-sized-by : {a b : ℕ} → LnDomain a b → (m : ℕ) → (a - b) * 1_000_000_000 ≤ m * b → Sized (lnOf a b) lnWidth
+    (m + lnWidth)
 ln-sized-by {a} {b} d m h =
     let low : lnOf a b .low ≤ m = le-of-mul-le-mul-right (omega (arith, lnOf-most d)) (d .least) in
     let s = ln-sized d in
@@ -64,33 +65,63 @@ module _ (c : ℕ) {e : Ends} {w b : ℕ} (z : Sized e w b) where
   unfolding multipleOf
   multiple-sized k m hk hm = record {
     order = omega (arith, in-order (c * e .low) (c * e .high) scale (omega arith) (mul-le-mul-left c (z .order)));
-    narrow = omega (arith, near (c * e .low) (c * e .high) (c * w) k scale (omega arith) (omega (arith, mul-le-mul-left c (z .narrow))) hk);
+    narrow =
+        omega (
+          arith,
+          near (c * e .low) (c * e .high) (c * w) k scale (omega arith)
+              (omega (arith, mul-le-mul-left c (z .narrow))) hk,
+        );
     small = omega (arith, up-to (c * e .high) m scale (omega arith) (omega (arith, mul-le-mul-left c (z .small))));
   }
 
 -- a b grows by A v + B w at most where a grows by w to A at most, and b by v to B at most
 apart : (a a' b b' A B w v : ℕ) → a' ≤ a + w → b' ≤ b + v → a' ≤ A → b' ≤ B → b ≤ b' → a' * b' ≤ a * b + (A * v + B * w)
 apart a a' b b' A B w v ha hb hA hB order =
-    omega (arith, mul-le-mul-left a' hb, mul-le-mul-right v hA, mul-le-mul-right b ha, mul-le-mul-right w hB, mul-le-mul-right w order)
+    omega (
+      arith,
+      mul-le-mul-left a' hb,
+      mul-le-mul-right v hA,
+      mul-le-mul-right b ha,
+      mul-le-mul-right w hB,
+      mul-le-mul-right w order,
+    )
 
 module _ {x y : Ends} {w A v B : ℕ} (p : Sized x w A) (q : Sized y v B) where
   pub product-takes : A * B < 2 ^ 63 → ProductDomain x y
-  product-takes h = record { left = p .order; right = q .order; small = omega (arith, mul-le-mul (p .small) (q .small)) }
+  product-takes h =
+      record { left = p .order; right = q .order; small = omega (arith, mul-le-mul (p .small) (q .small)) }
 
   pub product-sized : (k m : ℕ) → A * v + B * w ≤ k * 1_000_000_000 → A * B ≤ m * 1_000_000_000 →
       Sized (productOf x y) (k + 1) (m + 1)
   unfolding productOf
   product-sized k m hk hm = record {
-    order = omega (arith, in-order (x .low * y .low) (x .high * y .high) 1_000_000_000 (omega arith) (mul-le-mul (p .order) (q .order)));
-    narrow = omega (arith, near (x .low * y .low) (x .high * y .high) (A * v + B * w) k 1_000_000_000 (omega arith) (apart (x .low) (x .high) (y .low) (y .high) A B w v (p .narrow) (q .narrow) (p .small) (q .small) (q .order)) hk);
-    small = omega (arith, up-to (x .high * y .high) m 1_000_000_000 (omega arith) (omega (arith, mul-le-mul (p .small) (q .small))));
+    order =
+        omega (
+          arith,
+          in-order (x .low * y .low) (x .high * y .high) 1_000_000_000 (omega arith)
+              (mul-le-mul (p .order) (q .order)),
+        );
+    narrow =
+        omega (
+          arith,
+          near (x .low * y .low) (x .high * y .high) (A * v + B * w) k 1_000_000_000 (omega arith)
+              (apart (x .low) (x .high) (y .low) (y .high) A B w v (p .narrow) (q .narrow) (p .small) (q .small)
+              (q .order)) hk,
+        );
+    small =
+        omega (
+          arith,
+          up-to (x .high * y .high) m 1_000_000_000 (omega arith)
+              (omega (arith, mul-le-mul (p .small) (q .small))),
+        );
   }
 
 -- e's low end is at least l
 pub record From (e : Ends) (l : ℕ) : Type 0 where
   pub least : l ≤ e .low
 
-pub product-from : {x y : Ends} {a b : ℕ} → From x a → From y b → (l : ℕ) → l * 1_000_000_000 ≤ a * b → From (productOf x y) l
+pub product-from : {x y : Ends} {a b : ℕ} → From x a → From y b → (l : ℕ) → l * 1_000_000_000 ≤ a * b → From
+    (productOf x y) l
 unfolding productOf
 product-from {x} {y} p q l h =
     record { least = go _ (lt-div-mul-add {a = x .low * y .low} {b = 1_000_000_000} (omega arith)) }
@@ -103,7 +134,8 @@ unfolding sumOf
 sum-from p q = record { least = omega (arith, p .least, q .least) }
 
 -- two pairs from l on that are both at most b
-pub span-sized : {x y : Ends} {v A w B : ℕ} → Sized x v A → Sized y w B → (l b k : ℕ) → From x l → From y l → A ≤ b → B ≤ b →
+pub span-sized : {x y : Ends} {v A w B : ℕ} → Sized x v A → Sized y w B → (l b k : ℕ) → From x l → From y l → A ≤ b →
+    B ≤ b →
     b ≤ l + k → Sized (spanOf x y) k b
 unfolding spanOf
 span-sized p q l b k f g hA hB h = record {
@@ -226,13 +258,18 @@ module _ {x y : Fraction} {a b : Ends} (h : Held x a) (k : Held y b) where
       go _ _ (omega (arith, div-mul-le-self (a .low * b .low) 1_000_000_000))
       (omega (arith, next (a .high * b .high) 1_000_000_000 (omega arith)))
     where
-      go : (l u : ℕ) → l * 1_000_000_000 ≤ a .low * b .low → a .high * b .high ≤ u * 1_000_000_000 → Lies (x *q y) l 0 u 0
+      go : (l u : ℕ) → l * 1_000_000_000 ≤ a .low * b .low → a .high * b .high ≤ u * 1_000_000_000 → Lies
+          (x *q y) l 0 u 0
       go l u p q =
           let m = mul-between-left y (upward (h .from) (h .to)) in
           let o = natural-order h in
           record {
-            from = between-low m (side-low (a .low) l p) (side-low (a .high) l (omega (arith, mul-le-mul-right (b .low) o)));
-            to = between-high m (side-high (a .low) u (omega (arith, mul-le-mul-right (b .high) o))) (side-high (a .high) u q);
+            from =
+                between-low m (side-low (a .low) l p)
+                (side-low (a .high) l (omega (arith, mul-le-mul-right (b .low) o)));
+            to =
+                between-high m (side-high (a .low) u (omega (arith, mul-le-mul-right (b .high) o)))
+                (side-high (a .high) u q);
           }
 
 pub sum-held : {x y : Fraction} {a b : Ends} → Held x a → Held y b → Held (x +q y) (sumOf a b)
@@ -251,7 +288,8 @@ recip-high u n l d p q = omega (arith, mul-le-mul-left u p, mul-le-mul-right d q
 held-above : {x : Fraction} {e : Ends} → Held x e → 0 < e .low → zeroQ <q x
 held-above {e = e} h some = <q-≤q-trans (lt-of zero-Is (units-Is (e .low) 0) (omega arith)) (h .from)
 
-pub recip-held : {x : Fraction} {e : Ends} → Held x e → 0 < e .low → (r : Ends) → r .low * e .high ≤ 1_000_000_000_000_000_000 →
+pub recip-held : {x : Fraction} {e : Ends} → Held x e → 0 < e .low → (r : Ends) →
+    r .low * e .high ≤ 1_000_000_000_000_000_000 →
     1_000_000_000_000_000_000 ≤ r .high * e .low → Held (recipQ x) r
 recip-held {x} {e} h some r low high =
     let a = above-zero x (held-above h some) in

@@ -43,7 +43,11 @@ difference-small a b n ha hb = go (ltb a b) (ltb→lt a b) (nltb→le a b)
 pub between-small : {a b c d : ℕ} (n : ℕ) → a < n → b < n → c < n → d < n → SmallerThan n (betweenOf a b c d)
 unfolding betweenOf
 between-small {a} {b} {c} {d} n ha hb hc hd =
-    record { low = difference-small a b n (omega arith) (omega arith); high = difference-small c d n (omega arith) (omega arith) }
+    record {
+      low = difference-small a b n (omega arith) (omega arith);
+      high = difference-small c d n (omega arith)
+          (omega arith);
+    }
 
 -- a difference whose size is below 2 ^ 63, stored and read back
 pub stored : {z : ℤ} (a b : ℕ) → a < b + 2 ^ 63 → b < a + 2 ^ 63 → z ≡ subℕ a b → toZ w64 (ofZ w64 z) ≡ subℕ a b

@@ -1,16 +1,15 @@
 -- Formulas whose pair is one number at every fineness, found by computing.
-use mathlib.Core.Path.{_≡_, refl}
 use mathlib.Core.Bool.{Bool, true, false, _&&_, cond}
 use mathlib.Core.Option.{Option, none, some}
-use Prim.Native.Nat.{ℕ, _≤_, _<_}
+use Prim.Native.Nat.{ℕ, _≤_}
 use native.Mathlib.Nat.{le-refl, sub-self}
 use borrow.Author.Tests.{le-leb}
 use lib.Dec.{T, eqb, leb, ltb, eqb→eq, leb→le, ltb→lt}
-use Rattle.exact.specs.Fraction.{Fraction, leQ, _≤q_, _≈q_, zeroQ, _+q_, negQ, _-q_, _*q_, _/q_, recipQ, minQ, maxQ}
+use Rattle.exact.specs.Fraction.{Fraction, leQ, _≤q_, _≈q_, zeroQ, _+q_, _-q_, _*q_, _/q_, minQ, maxQ}
 use Rattle.exact.specs.Pair.{Pair, exactly, _+p_, _-p_, _*p_, _/p_, span4}
 use Rattle.exact.specs.Logarithm.{harmonic, lowerSum, upperSum, lnPair}
 use Rattle.exact.specs.Formula.{Formula, stated, ln, root, _⊕_, _⊖_, _⊗_, _⊘_, ifUpTo, eval, Defined}
-use Rattle.exact.proofs.FractionLaws.{≤q-antisym, ≈q-sym}
+use Rattle.exact.proofs.FractionLaws.{≤q-antisym}
 use Rattle.exact.proofs.AlgebraLaws.{≈q-refl, ≈q-trans, add-cong, neg-cong, mul-cong-left, mul-cong-right, mul-zero}
 use Rattle.exact.proofs.Points.{Positive, positive-ln}
 use Rattle.exact.proofs.Tests.{and-left, and-right}
@@ -23,7 +22,8 @@ same x y = leQ x y && leQ y x
 
 pub same-is : {x y : Fraction} → T (same x y) → x ≈q y
 unfolding same
-same-is {x} {y} t = ≤q-antisym (record { le = and-left (leQ x y) (leQ y x) t }) (record { le = and-right (leQ x y) (leQ y x) t })
+same-is {x} {y} t =
+    ≤q-antisym (record { le = and-left (leQ x y) (leQ y x) t }) (record { le = and-right (leQ x y) (leQ y x) t })
 
 unfoldable pub merged : (Fraction → Fraction → Fraction) → Option Fraction → Option Fraction → Option Fraction
 merged op none y = none
@@ -105,7 +105,8 @@ mul-both {x' = x'} {y} p q = ≈q-trans (mul-cong-left y p) (mul-cong-right x' q
 mul-is : {x y : Fraction} {P Q : Pair} → Is P x → Is Q y → Is (P *p Q) (x *q y)
 unfolding _*p_
 mul-is p q =
-    span-is (mul-both (p .low) (q .low)) (mul-both (p .low) (q .high)) (mul-both (p .high) (q .low)) (mul-both (p .high) (q .high))
+    span-is (mul-both (p .low) (q .low)) (mul-both (p .low) (q .high)) (mul-both (p .high) (q .low))
+    (mul-both (p .high) (q .high))
 
 none-over-is : {P : Pair} (Q : Pair) → Is P zeroQ → Is (P /p Q) zeroQ
 unfolding _/p_ _/q_
@@ -140,7 +141,8 @@ merged-found op e f g step none b p q = tt
 merged-found op e f g step (some x) none p q = tt
 merged-found op e f g step (some x) (some y) p q = λ n h. step n x y (p n h) (q n h)
 
-quotient-found : (e f : Formula) (a : Option Fraction) (k : Bool) → Found e a → (T k → Positive f) → Found (e ⊘ f) (zeroOver a k)
+quotient-found : (e f : Formula) (a : Option Fraction) (k : Bool) → Found e a → (T k → Positive f) → Found (e ⊘ f)
+    (zeroOver a k)
 unfolding zeroOver eval Defined
 quotient-found e f none k p q = tt
 quotient-found e f (some x) false p q = tt
@@ -169,10 +171,13 @@ found (stated x) = λ n h. (tt, exactly-is x)
 found (ln a b) = ln-found a b
 found (root X) = tt
 found (e ⊕ f) =
-    merged-found _+q_ e f (e ⊕ f) (λ n x y p q. ((p .0, q .0), add-is (p .1) (q .1))) (constant e) (constant f) (found e) (found f)
+    merged-found _+q_ e f (e ⊕ f) (λ n x y p q. ((p .0, q .0), add-is (p .1) (q .1))) (constant e) (constant f)
+    (found e) (found f)
 found (e ⊖ f) =
-    merged-found _-q_ e f (e ⊖ f) (λ n x y p q. ((p .0, q .0), sub-is (p .1) (q .1))) (constant e) (constant f) (found e) (found f)
+    merged-found _-q_ e f (e ⊖ f) (λ n x y p q. ((p .0, q .0), sub-is (p .1) (q .1))) (constant e) (constant f)
+    (found e) (found f)
 found (e ⊗ f) =
-    merged-found _*q_ e f (e ⊗ f) (λ n x y p q. ((p .0, q .0), mul-is (p .1) (q .1))) (constant e) (constant f) (found e) (found f)
+    merged-found _*q_ e f (e ⊗ f) (λ n x y p q. ((p .0, q .0), mul-is (p .1) (q .1))) (constant e) (constant f)
+    (found e) (found f)
 found (e ⊘ f) = quotient-found e f (constant e) (positive f) (found e) (positive-is f)
 found (ifUpTo e f A B) = tt

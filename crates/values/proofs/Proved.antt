@@ -113,10 +113,10 @@ holds (reads s xs) t =
 -- ---- all of them
 
 all-pass : T (every (λ k c. passes c) 0 values)
-unfolding passes matches constant merged zeroOver positive rowFor secondRowFor rowAt takesTable3 idrissRow booreAtkinsonRow secondRowAt bnl
-    alphaPart betaFactor _-q_ _*q_ sound same sameList eval lnPair lowerSum upperSum harmonic rootPair rootValues wholeRoot greatest leQ
-    zeroQ negQ _+q_ _over_ readOf readRefusal mapRefusal scenarioIn lengthBy numbersOf sizeOf absentWritten refusalOf
-    refusalBy
+unfolding passes matches constant merged zeroOver positive rowFor secondRowFor rowAt takesTable3 idrissRow
+    booreAtkinsonRow secondRowAt bnl alphaPart betaFactor _-q_ _*q_ sound same sameList eval lnPair lowerSum upperSum
+    harmonic rootPair rootValues wholeRoot greatest leQ zeroQ negQ _+q_ _over_ readOf readRefusal mapRefusal
+    scenarioIn lengthBy numbersOf sizeOf absentWritten refusalOf refusalBy
 all-pass = tt
 
 pub all-hold : AllHold

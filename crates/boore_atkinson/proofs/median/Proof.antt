@@ -41,13 +41,21 @@ plus-requires c κs = search needs
 
 plus-requires-2 : tie.Need-plus-requires-2
 plus-requires-2 c κs =
-    let first = plus-sized (c .before .before .before .before .before .rock .ensures .1) (c .before .before .before .linear .ensures .1) in
-    (rw (c .plus .ensures) (motion-wider first (omega arith) (omega arith)), motion-wider (c .before .nonlinear-part .ensures .1) (omega arith) (omega arith))
+    let first =
+    plus-sized (c .before .before .before .before .before .rock .ensures .1)
+    (c .before .before .before .linear .ensures .1) in (
+      rw (c .plus .ensures) (motion-wider first (omega arith) (omega arith)),
+      motion-wider
+          (c .before .nonlinear-part .ensures .1) (omega arith) (omega arith),
+    )
 
 ends-requires : tie.Need-ends-requires
 ends-requires c κs =
-    let first = plus-sized (c .before .before .before .before .before .before .rock .ensures .1) (c .before .before .before .before .linear .ensures .1) in
-    rw (c .plus2 .ensures, c .before .plus .ensures) (motion-wider (plus-sized first (c .before .before .nonlinear-part .ensures .1)) (omega arith) (omega arith))
+    let first =
+    plus-sized (c .before .before .before .before .before .before .rock .ensures .1)
+    (c .before .before .before .before .linear .ensures .1) in
+    rw (c .plus2 .ensures, c .before .plus .ensures)
+    (motion-wider (plus-sized first (c .before .before .nonlinear-part .ensures .1)) (omega arith) (omega arith))
 
 returns : tie.Need-returns
 returns c =
@@ -55,8 +63,14 @@ returns c =
     let n = c .before .before .before .nonlinear-part in
     let sum = c .before .plus2 .ensures ∙ ap (λ x. plusOf x (n .result)) (c .before .before .plus .ensures) in
     c .ends .ensures ∙ ap endsOf sum ∙
-    median-is (rowAt (a .k)) (a .magnitude) (a .projection-distance) (a .velocity) (a .mechanism) (c .before .before .before .before .before .before .before .before .before .before .before .distance-at .ensures .0) (c .before .before .before .before .before .before .before .before .magnitude-at .ensures .0)
-    (c .before .before .before .before .before .before .site-at .ensures .0) (c .before .before .before .before .before .before .before .before .before .effective-distance .ensures .0) (c .before .before .before .before .before .before .before .rock .ensures .0) (c .before .before .before .before .before .linear .ensures .0) (c .before .before .before .before .below .ensures .0) (n .ensures .0)
+    median-is (rowAt (a .k)) (a .magnitude) (a .projection-distance) (a .velocity) (a .mechanism)
+    (c .before .before .before .before .before .before .before .before .before .before .before .distance-at .ensures .0)
+    (c .before .before .before .before .before .before .before .before .magnitude-at .ensures .0)
+    (c .before .before .before .before .before .before .site-at .ensures .0)
+    (c .before .before .before .before .before .before .before .before .before .effective-distance .ensures .0)
+    (c .before .before .before .before .before .before .before .rock .ensures .0)
+    (c .before .before .before .before .before .linear .ensures .0)
+    (c .before .before .before .before .below .ensures .0) (n .ensures .0)
 
 pub median-spec : {M : Type 1} → statement M
 median-spec =

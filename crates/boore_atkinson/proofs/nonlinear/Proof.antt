@@ -18,7 +18,9 @@ returns : tie.Need-returns
 unfolding nonlinearEndsOf
 returns c =
     let a = c .before .before .before .args in
-    let n = c .before .nonlinear-part .ensures .0 ∙ ap (λ s. nonlinearOf s (a .velocity) (a .b)) (c .before .before .site-at .ensures .0) in
+    let n =
+    c .before .nonlinear-part .ensures .0 ∙ ap (λ s. nonlinearOf s (a .velocity) (a .b))
+    (c .before .before .site-at .ensures .0) in
     c .ends .ensures ∙ ap endsOf n
 
 pub nonlinear-spec : {M : Type 1} → statement M

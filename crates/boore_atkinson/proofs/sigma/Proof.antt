@@ -24,7 +24,8 @@ between-requires c κs = search needs
 returns : tie.Need-returns
 returns c =
     let a = c .before .before .before .args in
-    c .between .ensures ∙ sigma-is (totalAt (a .k)) (a .mechanism) (c .before .before .total-at .ensures) (c .before .total .ensures)
+    c .between .ensures ∙ sigma-is (totalAt (a .k)) (a .mechanism) (c .before .before .total-at .ensures)
+    (c .before .total .ensures)
 
 pub sigma-spec : {M : Type 1} → statement M
 sigma-spec =

@@ -19,10 +19,12 @@ cast-factor-2 : tie.Need-cast-factor-2
 cast-factor-2 c = search needs
 
 mul-factor-2 : tie.Need-mul-factor-2
-mul-factor-2 c = let p = c .before .before .pre in record { fits = omega (arith, beta-bounds (p .0) (p .1) (p .2) .order) }
+mul-factor-2 c =
+    let p = c .before .before .pre in record { fits = omega (arith, beta-bounds (p .0) (p .1) (p .2) .order) }
 
 mul-factor-3 : tie.Need-mul-factor-3
-mul-factor-3 c = let p = c .before .before .pre in record { fits = omega (arith, beta-bounds (p .0) (p .1) (p .2) .order) }
+mul-factor-3 c =
+    let p = c .before .before .pre in record { fits = omega (arith, beta-bounds (p .0) (p .1) (p .2) .order) }
 
 sub-factor : tie.Need-sub-factor
 sub-factor c = let p = c .before .before .pre in beta-bounds (p .0) (p .1) (p .2) .order
@@ -37,7 +39,8 @@ multiple-requires : tie.Need-multiple-requires
 unfolding betaOf
 multiple-requires c κs =
     let p = c .before .before .before .pre in
-    rw (c .ln .ensures) (multiple-takes _ (ln-sized (far-domain (p .3))) (omega (arith, beta-bounds (p .0) (p .1) (p .2) .small)))
+    rw (c .ln .ensures) (multiple-takes _ (ln-sized (far-domain (p .3)))
+    (omega (arith, beta-bounds (p .0) (p .1) (p .2) .small)))
 
 returns : tie.Need-returns
 unfolding distanceTermOf betaOf

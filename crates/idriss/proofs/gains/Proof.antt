@@ -20,13 +20,16 @@ faulting-requires : tie.Need-faulting-requires
 faulting-requires c κs = search needs
 
 mul-result : tie.Need-mul-result
-mul-result c = record { fits = omega (arith, mul-le-mul (c .before .before .before .pre .0 .phi) (c .faulting .ensures .1)) }
+mul-result c =
+    record { fits = omega (arith, mul-le-mul (c .before .before .before .pre .0 .phi) (c .faulting .ensures .1)) }
 
 mul-result-2 : tie.Need-mul-result-2
-mul-result-2 c = record { fits = omega (arith, mul-le-mul (c .before .before .before .pre .0 .phi) (c .faulting .ensures .1)) }
+mul-result-2 c =
+    record { fits = omega (arith, mul-le-mul (c .before .before .before .pre .0 .phi) (c .faulting .ensures .1)) }
 
 add-result : tie.Need-add-result
-add-result c = record { fits = omega (arith, mul-le-mul (c .before .before .before .pre .0 .phi) (c .faulting .ensures .1)) }
+add-result c =
+    record { fits = omega (arith, mul-le-mul (c .before .before .before .pre .0 .phi) (c .faulting .ensures .1)) }
 
 returns : tie.Need-returns
 unfolding gainsOf

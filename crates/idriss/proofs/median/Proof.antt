@@ -45,7 +45,8 @@ returns c =
     let up = c .before .before .before .before .before .before .gains in
     let down = c .before .before .before .before .before .losses in
     c .between .ensures ∙
-    median-is (rowAt (a .third) (a .k)) (a .magnitude) (a .rupture-distance) (a .velocity) (a .mechanism) (row .ensures .0) (far .ensures .0) (site .ensures .0) (up .ensures .0) (down .ensures .0)
+    median-is (rowAt (a .third) (a .k)) (a .magnitude) (a .rupture-distance) (a .velocity) (a .mechanism)
+    (row .ensures .0) (far .ensures .0) (site .ensures .0) (up .ensures .0) (down .ensures .0)
 
 pub median-spec : {M : Type 1} → statement M
 median-spec =

@@ -19,7 +19,8 @@ held-to-requires-2 : tie.Need-held-to-requires-2
 held-to-requires-2 c κs = search needs
 
 period-term-requires : tie.Need-period-term-requires
-period-term-requires c κs = rw (c .held-to2 .ensures) (held-tabled (c .before .before .args .period) (c .before .before .pre .tabled))
+period-term-requires c κs =
+    rw (c .held-to2 .ensures) (held-tabled (c .before .before .args .period) (c .before .before .pre .tabled))
 
 add-between : tie.Need-add-between
 add-between c = search needs
@@ -35,7 +36,8 @@ returns c =
     let a = c .before .before .before .before .before .before .before .args in
     let m = c .before .before .before .before .before .before .held-to in
     let t = c .before .before .before .before .before .held-to2 in
-    c .between .ensures ∙ sigma-below (a .period) (a .magnitude) (t .ensures) (m .ensures) (c .before .before .before .before .period-term .ensures .0) (c .before .before .before .if1 .taken)
+    c .between .ensures ∙ sigma-below (a .period) (a .magnitude) (t .ensures) (m .ensures)
+    (c .before .before .before .before .period-term .ensures .0) (c .before .before .before .if1 .taken)
 
 add-between-3 : tie.Need-add-between-3
 add-between-3 c = search needs
@@ -51,7 +53,8 @@ returns-2 c =
     let a = c .before .before .before .before .before .before .before .args in
     let m = c .before .before .before .before .before .before .held-to in
     let t = c .before .before .before .before .before .held-to2 in
-    c .between2 .ensures ∙ sigma-above (a .period) (a .magnitude) (t .ensures) (m .ensures) (c .before .before .before .before .period-term .ensures .0) (c .before .before .before .if1 .left)
+    c .between2 .ensures ∙ sigma-above (a .period) (a .magnitude) (t .ensures) (m .ensures)
+    (c .before .before .before .before .period-term .ensures .0) (c .before .before .before .if1 .left)
 
 pub sigma-spec : {M : Type 1} → statement M
 sigma-spec =

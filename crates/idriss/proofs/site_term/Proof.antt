@@ -26,7 +26,8 @@ ln-requires c κs = search needs
 multiple-requires : tie.Need-multiple-requires
 multiple-requires c κs =
     let p = c .before .before .before .pre in
-    rw (c .ln .ensures, c .before .before .lesser .ensures) (multiple-takes _ (ln-sized (site-domain (p .1))) (omega (arith, p .0 .xi)))
+    rw (c .ln .ensures, c .before .before .lesser .ensures)
+    (multiple-takes _ (ln-sized (site-domain (p .1))) (omega (arith, p .0 .xi)))
 
 returns : tie.Need-returns
 unfolding siteTermOf

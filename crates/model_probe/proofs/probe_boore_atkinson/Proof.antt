@@ -28,14 +28,19 @@ tell-requires : tie.Need-tell-requires
 tell-requires c κs =
     let a = c .before .before .before .before .args in
     let s = scenarioFrom 2 (a .magnitude) (a .projection-distance) (a .velocity) (a .mechanism) 0 in
-    let d = second-domain s (c .before .before .before .if1 .left) (within-second s (c .before .before .accepted .ensures) refl (c .before .if2 .taken)) in
+    let d =
+    second-domain s (c .before .before .before .if1 .left)
+    (within-second s (c .before .before .accepted .ensures) refl (c .before .if2 .taken)) in
     rw (c .median .ensures) (medianOf-promise (a .mechanism) d .small)
 
 returns-2 : tie.Need-returns-2
 unfolding probedBooreAtkinson
 returns-2 c =
     let a = c .before .before .before .before .before .args in
-    let e = is-told (scenarioFrom 2 (a .magnitude) (a .projection-distance) (a .velocity) (a .mechanism) 0) (c .before .before .before .accepted .ensures) (c .before .before .if2 .taken) (c .tell .ensures ∙ ap told (c .before .median .ensures)) in
+    let e =
+    is-told (scenarioFrom 2 (a .magnitude) (a .projection-distance) (a .velocity) (a .mechanism) 0)
+    (c .before .before .before .accepted .ensures) (c .before .before .if2 .taken)
+    (c .tell .ensures ∙ ap told (c .before .median .ensures)) in
     rw (lt-leb 22 (a .k) (c .before .before .before .before .if1 .left)) e
 
 none-requires-2 : tie.Need-none-requires-2
@@ -45,7 +50,9 @@ returns-3 : tie.Need-returns-3
 unfolding probedBooreAtkinson
 returns-3 c =
     let a = c .before .before .before .before .args in
-    let e = is-none (scenarioFrom 2 (a .magnitude) (a .projection-distance) (a .velocity) (a .mechanism) 0) (c .before .before .accepted .ensures) _ (c .before .if2 .left) (c .none2 .ensures) in
+    let e =
+    is-none (scenarioFrom 2 (a .magnitude) (a .projection-distance) (a .velocity) (a .mechanism) 0)
+    (c .before .before .accepted .ensures) _ (c .before .if2 .left) (c .none2 .ensures) in
     rw (lt-leb 22 (a .k) (c .before .before .before .if1 .left)) e
 
 pub probe-boore-atkinson-spec : {M : Type 1} → statement M

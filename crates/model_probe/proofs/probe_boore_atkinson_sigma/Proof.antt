@@ -30,7 +30,9 @@ returns-2 : tie.Need-returns-2
 unfolding probedBooreAtkinsonSigma
 returns-2 c =
     let a = c .before .before .before .before .before .args in
-    let e = is-told (scenarioFrom 2 700 0 7_600 (a .mechanism) 0) (c .before .before .before .accepted .ensures) (c .before .before .if2 .taken) (c .tell .ensures ∙ ap told (c .before .sigma .ensures)) in
+    let e =
+    is-told (scenarioFrom 2 700 0 7_600 (a .mechanism) 0) (c .before .before .before .accepted .ensures)
+    (c .before .before .if2 .taken) (c .tell .ensures ∙ ap told (c .before .sigma .ensures)) in
     rw (lt-leb 22 (a .k) (c .before .before .before .before .if1 .left)) e
 
 none-requires-2 : tie.Need-none-requires-2
@@ -40,7 +42,9 @@ returns-3 : tie.Need-returns-3
 unfolding probedBooreAtkinsonSigma
 returns-3 c =
     let a = c .before .before .before .before .args in
-    let e = is-none (scenarioFrom 2 700 0 7_600 (a .mechanism) 0) (c .before .before .accepted .ensures) _ (c .before .if2 .left) (c .none2 .ensures) in
+    let e =
+    is-none (scenarioFrom 2 700 0 7_600 (a .mechanism) 0) (c .before .before .accepted .ensures) _
+    (c .before .if2 .left) (c .none2 .ensures) in
     rw (lt-leb 22 (a .k) (c .before .before .before .if1 .left)) e
 
 pub probe-boore-atkinson-sigma-spec : {M : Type 1} → statement M

@@ -3,8 +3,6 @@ use mathlib.Core.Path.{_∙_, ap, refl}
 use borrow.Author.Tests.{le-leb, lt-leb}
 use borrow.Author.Needs.{needs}
 use lib.Dec.{eqb}
-use Rattle.idriss.specs.Evaluation.{medianOf}
-use Rattle.idriss.specs.Tables.{rowAt}
 use Rattle.idriss.proofs.Laws.{medianOf-promise}
 use Rattle.model_probe.specs.Probe.{scenarioFrom, told, probedIdriss}
 use Rattle.model_probe.proofs.Domains.{within-idriss, is-told, is-none, idriss-domain}
@@ -31,14 +29,19 @@ tell-requires : tie.Need-tell-requires
 tell-requires c κs =
     let a = c .before .before .before .before .args in
     let s = scenarioFrom 1 (a .magnitude) (a .rupture-distance) (a .velocity) (a .mechanism) 0 in
-    let d = idriss-domain s (c .before .before .before .if1 .left) (within-idriss s (c .before .before .accepted .ensures) refl (c .before .if2 .taken)) in
+    let d =
+    idriss-domain s (c .before .before .before .if1 .left)
+    (within-idriss s (c .before .before .accepted .ensures) refl (c .before .if2 .taken)) in
     rw (c .median .ensures) (medianOf-promise (eqb (a .table) 3) (a .mechanism) d .small)
 
 returns-2 : tie.Need-returns-2
 unfolding probedIdriss
 returns-2 c =
     let a = c .before .before .before .before .before .args in
-    let e = is-told (scenarioFrom 1 (a .magnitude) (a .rupture-distance) (a .velocity) (a .mechanism) 0) (c .before .before .before .accepted .ensures) (c .before .before .if2 .taken) (c .tell .ensures ∙ ap told (c .before .median .ensures)) in
+    let e =
+    is-told (scenarioFrom 1 (a .magnitude) (a .rupture-distance) (a .velocity) (a .mechanism) 0)
+    (c .before .before .before .accepted .ensures) (c .before .before .if2 .taken)
+    (c .tell .ensures ∙ ap told (c .before .median .ensures)) in
     rw (lt-leb 22 (a .k) (c .before .before .before .before .if1 .left)) e
 
 none-requires-2 : tie.Need-none-requires-2
@@ -48,7 +51,9 @@ returns-3 : tie.Need-returns-3
 unfolding probedIdriss
 returns-3 c =
     let a = c .before .before .before .before .args in
-    let e = is-none (scenarioFrom 1 (a .magnitude) (a .rupture-distance) (a .velocity) (a .mechanism) 0) (c .before .before .accepted .ensures) _ (c .before .if2 .left) (c .none2 .ensures) in
+    let e =
+    is-none (scenarioFrom 1 (a .magnitude) (a .rupture-distance) (a .velocity) (a .mechanism) 0)
+    (c .before .before .accepted .ensures) _ (c .before .if2 .left) (c .none2 .ensures) in
     rw (lt-leb 22 (a .k) (c .before .before .before .if1 .left)) e
 
 pub probe-idriss-spec : {M : Type 1} → statement M

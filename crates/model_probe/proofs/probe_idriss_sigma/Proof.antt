@@ -27,7 +27,8 @@ returns : tie.Need-returns
 unfolding probedIdrissSigma
 returns c =
     let a = c .before .before .before .before .args in
-    is-told (scenarioFrom 1 (a .magnitude) 0 7_600 0 (a .period)) (c .before .before .before .accepted .ensures) (c .before .before .if1 .taken) (c .tell .ensures ∙ ap told (c .before .sigma .ensures))
+    is-told (scenarioFrom 1 (a .magnitude) 0 7_600 0 (a .period)) (c .before .before .before .accepted .ensures)
+    (c .before .before .if1 .taken) (c .tell .ensures ∙ ap told (c .before .sigma .ensures))
 
 none-requires : tie.Need-none-requires
 none-requires c κs = search needs
@@ -36,7 +37,8 @@ returns-2 : tie.Need-returns-2
 unfolding probedIdrissSigma
 returns-2 c =
     let a = c .before .before .before .args in
-    is-none (scenarioFrom 1 (a .magnitude) 0 7_600 0 (a .period)) (c .before .before .accepted .ensures) _ (c .before .if1 .left) (c .none .ensures)
+    is-none (scenarioFrom 1 (a .magnitude) 0 7_600 0 (a .period)) (c .before .before .accepted .ensures) _
+    (c .before .if1 .left) (c .none .ensures)
 
 pub probe-idriss-sigma-spec : {M : Type 1} → statement M
 probe-idriss-sigma-spec =

@@ -2,7 +2,6 @@
 use mathlib.Core.Path.{_∙_, ap, refl}
 use borrow.Author.Tests.{le-leb, lt-leb, lt-ltb, le-ltb}
 use borrow.Author.Needs.{needs}
-use Rattle.boore_atkinson.specs.Promise.{NonlinearDomain}
 use Rattle.boore_atkinson.proofs.Laws.{nonlinear-promise}
 use Rattle.model_probe.specs.Probe.{scenarioFrom, told, probedNonlinear}
 use Rattle.model_probe.proofs.Domains.{within-second, is-told, is-none, nonlinear-domain}
@@ -31,21 +30,30 @@ nonlinear-requires : tie.Need-nonlinear-requires
 nonlinear-requires c κs =
     let a = c .before .before .before .before .args in
     let s = scenarioFrom 2 700 0 (a .velocity) 0 0 in
-    nonlinear-domain s (c .before .before .before .if1 .left) (c .before .before .if2 .left) (within-second s (c .before .accepted .ensures) refl (c .if3 .taken))
+    nonlinear-domain s (c .before .before .before .if1 .left) (c .before .before .if2 .left)
+    (within-second s (c .before .accepted .ensures) refl (c .if3 .taken))
 
 tell-requires : tie.Need-tell-requires
 tell-requires c κs =
     let a = c .before .before .before .before .before .args in
     let s = scenarioFrom 2 700 0 (a .velocity) 0 0 in
-    let d = nonlinear-domain s (c .before .before .before .before .if1 .left) (c .before .before .before .if2 .left) (within-second s (c .before .before .accepted .ensures) refl (c .before .if3 .taken)) in
+    let d =
+    nonlinear-domain s (c .before .before .before .before .if1 .left) (c .before .before .before .if2 .left)
+    (within-second s (c .before .before .accepted .ensures) refl (c .before .if3 .taken)) in
     rw (c .nonlinear .ensures) (nonlinear-promise d .small)
 
 returns-3 : tie.Need-returns-3
 unfolding probedNonlinear
 returns-3 c =
     let a = c .before .before .before .before .before .before .args in
-    let e = is-told (scenarioFrom 2 700 0 (a .velocity) 0 0) (c .before .before .before .accepted .ensures) (c .before .before .if3 .taken) (c .tell .ensures ∙ ap told (c .before .nonlinear .ensures)) in
-    rw (lt-leb 22 (a .k) (c .before .before .before .before .before .if1 .left), le-ltb (a .high) (a .low) (c .before .before .before .before .if2 .left)) e
+    let e =
+    is-told (scenarioFrom 2 700 0 (a .velocity) 0 0) (c .before .before .before .accepted .ensures)
+    (c .before .before .if3 .taken) (c .tell .ensures ∙ ap told (c .before .nonlinear .ensures)) in
+    rw (
+      lt-leb 22 (a .k) (c .before .before .before .before .before .if1 .left),
+      le-ltb (a .high) (a .low)
+          (c .before .before .before .before .if2 .left),
+    ) e
 
 none-requires-3 : tie.Need-none-requires-3
 none-requires-3 c κs = search needs
@@ -54,8 +62,14 @@ returns-4 : tie.Need-returns-4
 unfolding probedNonlinear
 returns-4 c =
     let a = c .before .before .before .before .before .args in
-    let e = is-none (scenarioFrom 2 700 0 (a .velocity) 0 0) (c .before .before .accepted .ensures) _ (c .before .if3 .left) (c .none3 .ensures) in
-    rw (lt-leb 22 (a .k) (c .before .before .before .before .if1 .left), le-ltb (a .high) (a .low) (c .before .before .before .if2 .left)) e
+    let e =
+    is-none (scenarioFrom 2 700 0 (a .velocity) 0 0) (c .before .before .accepted .ensures) _ (c .before .if3 .left)
+    (c .none3 .ensures) in
+    rw (
+      lt-leb 22 (a .k) (c .before .before .before .before .if1 .left),
+      le-ltb (a .high) (a .low)
+          (c .before .before .before .if2 .left),
+    ) e
 
 pub probe-nonlinear-spec : {M : Type 1} → statement M
 probe-nonlinear-spec =

@@ -25,14 +25,16 @@ rock-requires c κs = search needs
 sub-t7 : tie.Need-sub-t7
 sub-t7 c =
     let a = c .before .before .before .before .before .before .args in
-    rw (c .before .rock .ensures .0, c .before .before .pga-magnitude .ensures .0) (pga-order (a .m) (a .mechanism) _ (c .before .before .before .before .before .pga-distance .ensures .1))
+    rw (c .before .rock .ensures .0, c .before .before .pga-magnitude .ensures .0)
+    (pga-order (a .m) (a .mechanism) _ (c .before .before .before .before .before .pga-distance .ensures .1))
 
 sub-t9 : tie.Need-sub-t9
 sub-t9 c =
     let a = c .before .before .before .before .before .before .before .args in
     let r = c .before .before .rock in
     let o : r .result .gain .low ≤ r .result .loss .low =
-    rw (r .ensures .0, c .before .before .before .pga-magnitude .ensures .0) (pga-order (a .m) (a .mechanism) _ (c .before .before .before .before .before .before .pga-distance .ensures .1)) in
+    rw (r .ensures .0, c .before .before .before .pga-magnitude .ensures .0)
+    (pga-order (a .m) (a .mechanism) _ (c .before .before .before .before .before .before .pga-distance .ensures .1)) in
     omega (arith, o, r .ensures .1 .loss .order)
 
 returns : tie.Need-returns
@@ -40,7 +42,10 @@ returns c =
     let a = c .before .before .before .before .before .before .before .args in
     let p = c .before .before .before .before .before .before .before .pre in
     let e =
-    below-is (a .m) (a .projection-distance) (a .mechanism) (c .before .before .before .before .before .before .pga-distance .ensures .0) (c .before .before .before .pga-magnitude .ensures .0) (c .before .before .before .before .effective-distance .ensures .0)
+    below-is (a .m) (a .projection-distance) (a .mechanism)
+    (c .before .before .before .before .before .before .pga-distance .ensures .0)
+    (c .before .before .before .pga-magnitude .ensures .0)
+    (c .before .before .before .before .effective-distance .ensures .0)
     (c .before .before .rock .ensures .0) in
     (e, rw e (below-sized (a .mechanism) (p .1) (p .2)))
 

@@ -49,8 +49,11 @@ add-t11 c =
 returns : tie.Need-returns
 returns c =
     let a = c .before .before .args in
-    let e = effective-is (a .projection-distance) (a .h) (c .before .root .ensures) (c .ln .ensures) in
-    (e, rw e (effective-sized (squares (c .before .before .pre .0) (c .before .before .pre .1) (c .before .before .pre .2))))
+    let e = effective-is (a .projection-distance) (a .h) (c .before .root .ensures) (c .ln .ensures) in (
+      e,
+      rw e (effective-sized (squares (c .before .before .pre .0) (c .before .before .pre .1)
+          (c .before .before .pre .2))),
+    )
 
 pub effective-distance-spec : {M : Type 1} → statement M
 effective-distance-spec =

@@ -33,7 +33,9 @@ returns : tie.Need-returns
 returns c =
     let a = c .before .before .before .before .before .args in
     let p = c .before .before .before .before .before .pre in
-    let e = fall-is (a .r) (a .m) (a .s) (c .before .before .before .before .spread .ensures .0) (c .before .before .before .multiple .ensures) (c .before .multiple2 .ensures) (c .sum .ensures) in
+    let e =
+    fall-is (a .r) (a .m) (a .s) (c .before .before .before .before .spread .ensures .0)
+    (c .before .before .before .multiple .ensures) (c .before .multiple2 .ensures) (c .sum .ensures) in
     (e, rw e (fall-sized (p .0) (p .2) (p .3)))
 
 pub fall-spec : {M : Type 1} → statement M

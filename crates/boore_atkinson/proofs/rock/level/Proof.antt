@@ -57,24 +57,48 @@ mul-t19 c = search needs
 
 returns : tie.Need-returns
 unfolding levelOf
-returns c =
-    (rw (c .before .before .match .keys1) refl, record { gain = omega (arith, c .before .before .before .pre .e1-gain); loss = omega (arith, c .before .before .before .pre .e1-loss) })
+returns c = (
+  rw (c .before .before .match .keys1) refl,
+  record {
+    gain = omega (arith, c .before .before .before .pre .e1-gain);
+    loss = omega
+        (arith, c .before .before .before .pre .e1-loss);
+  },
+)
 
 returns-2 : tie.Need-returns-2
 unfolding levelOf
-returns-2 c =
-    (rw (c .before .before .match .keys2) refl, record { gain = omega (arith, c .before .before .before .pre .e2-gain); loss = omega (arith, c .before .before .before .pre .e2-loss) })
+returns-2 c = (
+  rw (c .before .before .match .keys2) refl,
+  record {
+    gain = omega (arith, c .before .before .before .pre .e2-gain);
+    loss = omega
+        (arith, c .before .before .before .pre .e2-loss);
+  },
+)
 
 returns-3 : tie.Need-returns-3
 unfolding levelOf
-returns-3 c =
-    (rw (c .before .before .match .keys3) refl, record { gain = omega (arith, c .before .before .before .pre .e3-gain); loss = omega (arith, c .before .before .before .pre .e3-loss) })
+returns-3 c = (
+  rw (c .before .before .match .keys3) refl,
+  record {
+    gain = omega (arith, c .before .before .before .pre .e3-gain);
+    loss = omega
+        (arith, c .before .before .before .pre .e3-loss);
+  },
+)
 
 returns-4 : tie.Need-returns-4
 unfolding levelOf
 returns-4 c =
-    let k = c .before .before .match .rest in
-    (simp (ne-eqb _ 9 (k .0 .0 .1), ne-eqb _ 0 (k .0 .1), ne-eqb _ 1 (k .1)) refl, record { gain = omega (arith, c .before .before .before .pre .e4-gain); loss = omega (arith, c .before .before .before .pre .e4-loss) })
+    let k = c .before .before .match .rest in (
+      simp (ne-eqb _ 9 (k .0 .0 .1), ne-eqb _ 0 (k .0 .1), ne-eqb _ 1 (k .1)) refl,
+      record {
+        gain = omega (arith, c .before .before .before .pre .e4-gain);
+        loss = omega
+            (arith, c .before .before .before .pre .e4-loss);
+      },
+    )
 
 pub level-spec : {M : Type 1} → statement M
 level-spec =

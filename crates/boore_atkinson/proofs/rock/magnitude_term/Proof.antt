@@ -1,7 +1,6 @@
 -- `rock::magnitude_term` meets its contract.
 use native.Mathlib.Omega.{arith}
 use borrow.Author.Needs.{needs}
-use Rattle.boore_atkinson.proofs.RockSizes.{magnitude-small}
 use Rattle.boore_atkinson.proofs.Sums.{under-is, over-is}
 use Rattle.boore_atkinson.proofs.rock.magnitude_term.Statement.{statement}
 use Rattle.boore_atkinson.proofs.rock.magnitude_term.Tie as tie
@@ -40,8 +39,14 @@ returns : tie.Need-returns
 returns c =
     let a = c .before .before .before .before .before .before .args in
     let p = c .before .before .before .before .before .before .pre in
-    let e = c .before .before .before .before .before .level in
-    (under-is (a .r) (a .m) (a .mechanism) (e .ensures .0) (c .before .before .before .if1 .taken), record { gain = omega (arith, e .ensures .1 .gain); loss = omega (arith, e .ensures .1 .loss, p .1 .slope, p .1 .bow) })
+    let e = c .before .before .before .before .before .level in (
+      under-is (a .r) (a .m) (a .mechanism) (e .ensures .0) (c .before .before .before .if1 .taken),
+      record {
+        gain = omega (arith, e .ensures .1 .gain);
+        loss = omega
+            (arith, e .ensures .1 .loss, p .1 .slope, p .1 .bow);
+      },
+    )
 
 sub-away : tie.Need-sub-away
 sub-away c = search needs
@@ -62,8 +67,10 @@ returns-2 : tie.Need-returns-2
 returns-2 c =
     let a = c .before .before .before .before .before .args in
     let p = c .before .before .before .before .before .pre in
-    let e = c .before .before .before .before .level in
-    (over-is (a .r) (a .m) (a .mechanism) (e .ensures .0) (c .before .before .if1 .left), record { gain = omega (arith, e .ensures .1 .gain, p .1 .rise); loss = omega (arith, e .ensures .1 .loss) })
+    let e = c .before .before .before .before .level in (
+      over-is (a .r) (a .m) (a .mechanism) (e .ensures .0) (c .before .before .if1 .left),
+      record { gain = omega (arith, e .ensures .1 .gain, p .1 .rise); loss = omega (arith, e .ensures .1 .loss) },
+    )
 
 pub magnitude-term-spec : {M : Type 1} → statement M
 magnitude-term-spec =

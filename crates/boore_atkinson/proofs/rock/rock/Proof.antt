@@ -30,7 +30,10 @@ returns : tie.Need-returns
 returns c =
     let a = c .before .before .before .before .before .before .before .before .args in
     let p = c .before .before .before .before .before .before .before .before .pre in
-    let e = rock-is (a .r) (a .q) (a .m) (a .s) (a .mechanism) (c .before .before .before .before .before .before .before .fall .ensures .0) (c .before .before .before .before .before .before .magnitude-term .ensures .0) in
+    let e =
+    rock-is (a .r) (a .q) (a .m) (a .s) (a .mechanism)
+    (c .before .before .before .before .before .before .before .fall .ensures .0)
+    (c .before .before .before .before .before .before .magnitude-term .ensures .0) in
     (e, rw e (rock-sized (a .mechanism) (p .0) (p .1) (p .3) (p .4)))
 
 pub rock-spec : {M : Type 1} → statement M

@@ -15,23 +15,31 @@ product-requires-2 c κs =
 
 product-requires-3 : tie.Need-product-requires-3
 product-requires-3 c κs =
-    rw (c .before .product .ensures) (product-takes (square-sized _ _ _ _ _ anyWidth (c .before .before .pre)) (c .before .before .pre) (omega arith))
+    rw (c .before .product .ensures) (product-takes (square-sized _ _ _ _ _ anyWidth (c .before .before .pre))
+    (c .before .before .pre) (omega arith))
 
 product-requires-4 : tie.Need-product-requires-4
 product-requires-4 c κs =
-    rw (c .product3 .ensures, c .before .before .product .ensures) (product-takes d-sized (cube-sized _ _ _ _ _ anyWidth (c .before .before .before .pre)) (omega arith))
+    rw (c .product3 .ensures, c .before .before .product .ensures)
+    (product-takes d-sized (cube-sized _ _ _ _ _ anyWidth (c .before .before .before .pre)) (omega arith))
 
 sum-requires : tie.Need-sum-requires
 sum-requires c κs =
     let p = c .before .before .before .before .pre in
-    rw (c .before .before .product2 .ensures, c .product4 .ensures, c .before .product3 .ensures, c .before .before .before .product .ensures)
+    rw (
+      c .before .before .product2 .ensures,
+      c .product4 .ensures,
+      c .before .product3 .ensures,
+      c .before .before .before .product .ensures,
+    )
     (sum-takes (first-sized _ _ _ _ _ anyWidth p) (second-sized _ _ _ _ _ anyWidth p) (omega arith))
 
 returns : tie.Need-returns
 returns c =
     let p = c .before .before .before .before .before .pre in
     let e =
-    cubic-is (c .before .before .before .before .before .args .z) (c .before .before .before .before .product .ensures) (c .before .before .before .product2 .ensures) (c .before .before .product3 .ensures) (c .before .product4 .ensures)
+    cubic-is (c .before .before .before .before .before .args .z) (c .before .before .before .before .product .ensures)
+    (c .before .before .before .product2 .ensures) (c .before .before .product3 .ensures) (c .before .product4 .ensures)
     (c .sum .ensures) in
     (e, rw e (sized-wider (cubic-sized _ _ _ _ _ anyWidth p) (omega arith) (omega arith)))
 

@@ -16,7 +16,8 @@ unfolding curveOf
 returns c =
     let a = c .before .before .before .args in
     let rest = branchOf (a .b) minusLnA2 (cubicOf (zOf (a .b))) (straightOf (a .b)) in
-    let e = branch-from-is (a .b) minusLnA1 (exactly 0) rest (omega arith) (c .before .if1 .taken) (c .exact .ensures) in
+    let e =
+    branch-from-is (a .b) minusLnA1 (exactly 0) rest (omega arith) (c .before .if1 .taken) (c .exact .ensures) in
     (e, rw e (curve-sized (c .before .before .before .pre)))
 
 upper-requires : tie.Need-upper-requires
@@ -41,7 +42,9 @@ returns-3 c =
     let a = c .before .before .before .before .before .before .before .args in
     let rest = branchOf (a .b) minusLnA2 (cubicOf (zOf (a .b))) (straightOf (a .b)) in
     let e =
-    branch-both-is (a .b) minusLnA1 (exactly 0) rest (c .before .before .if2 .left) (omega (arith, c .before .before .before .before .before .if1 .left)) (c .before .exact2 .ensures) (c .before .before .before .before .upper .ensures .0)
+    branch-both-is (a .b) minusLnA1 (exactly 0) rest (c .before .before .if2 .left)
+    (omega (arith, c .before .before .before .before .before .if1 .left)) (c .before .exact2 .ensures)
+    (c .before .before .before .before .upper .ensures .0)
     (c .span .ensures) in
     (e, rw e (curve-sized (c .before .before .before .before .before .before .before .pre)))
 

@@ -24,13 +24,16 @@ mul-multiple c = search needs
 multiple-requires : tie.Need-multiple-requires
 multiple-requires c κs =
     let p = c .before .before .before .pre in
-    rw (c .before .product .ensures, c .before .before .ln .ensures) (multiple-takes _ (fast-ratio (p .0) (omega arith) (p .1) (p .2)) (omega (arith, p .0 .b2)))
+    rw (c .before .product .ensures, c .before .before .ln .ensures)
+    (multiple-takes _ (fast-ratio (p .0) (omega arith) (p .1) (p .2)) (omega (arith, p .0 .b2)))
 
 returns : tie.Need-returns
 returns c =
     let a = c .before .before .before .before .args in
     let p = c .before .before .before .before .pre in
-    let e = fast-is (a .s) (a .v) (c .before .before .before .ln .ensures) (c .before .before .product .ensures) (c .multiple .ensures) in
+    let e =
+    fast-is (a .s) (a .v) (c .before .before .before .ln .ensures) (c .before .before .product .ensures)
+    (c .multiple .ensures) in
     (e, rw e (fast-sized (p .0) (omega arith) (p .1) (p .2)))
 
 pub fast-slope-spec : {M : Type 1} → statement M

@@ -23,7 +23,8 @@ multiple-requires : tie.Need-multiple-requires
 multiple-requires c κs =
     let p = c .before .before .before .pre in
     let h = c .before .if1 .taken in
-    rw (c .ln .ensures) (multiple-takes _ (ln-sized (ln-domain (omega arith) (omega arith) (omega arith))) (omega (arith, p .0 .blin)))
+    rw (c .ln .ensures) (multiple-takes _ (ln-sized (ln-domain (omega arith) (omega arith) (omega arith)))
+    (omega (arith, p .0 .blin)))
 
 exact-requires : tie.Need-exact-requires
 exact-requires c κs = search needs
@@ -45,14 +46,16 @@ ln-requires-2 c κs = search needs
 multiple-requires-2 : tie.Need-multiple-requires-2
 multiple-requires-2 c κs =
     let p = c .before .before .before .before .pre in
-    rw (c .ln2 .ensures) (multiple-takes _ (ln-sized (ln-domain (omega arith) (c .before .before .if1 .left) (omega arith))) (omega (arith, p .0 .blin)))
+    rw (c .ln2 .ensures) (multiple-takes _ (ln-sized
+    (ln-domain (omega arith) (c .before .before .if1 .left) (omega arith))) (omega (arith, p .0 .blin)))
 
 returns-2 : tie.Need-returns-2
 returns-2 c =
     let a = c .before .before .before .before .before .args in
     let p = c .before .before .before .before .before .pre in
     let term = c .multiple2 .ensures ∙ ap (multipleOf _) (c .before .ln2 .ensures) in
-    let e = linear-fast (a .s) (a .v) (c .before .before .exact2 .ensures) (c .before .before .before .if1 .left) term in
+    let e =
+    linear-fast (a .s) (a .v) (c .before .before .exact2 .ensures) (c .before .before .before .if1 .left) term in
     (e, rw e (linear-sized (p .0) (p .1) (p .2)))
 
 pub linear-spec : {M : Type 1} → statement M

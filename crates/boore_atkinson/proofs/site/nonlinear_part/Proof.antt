@@ -23,7 +23,9 @@ returns : tie.Need-returns
 returns c =
     let a = c .before .before .before .before .args in
     let p = c .before .before .before .before .pre in
-    let e = nonlinear-is (a .s) (a .v) (a .b) (c .before .before .before .slope .ensures .0) (c .before .curve .ensures .0) (c .before .before .product .ensures) (c .product2 .ensures) in
+    let e =
+    nonlinear-is (a .s) (a .v) (a .b) (c .before .before .before .slope .ensures .0) (c .before .curve .ensures .0)
+    (c .before .before .product .ensures) (c .product2 .ensures) in
     (e, rw e (nonlinear-sized (a .b) (p .0) (p .1) (p .2)))
 
 pub nonlinear-part-spec : {M : Type 1} → statement M

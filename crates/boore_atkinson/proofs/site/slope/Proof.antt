@@ -28,7 +28,9 @@ returns-2 : tie.Need-returns-2
 returns-2 c =
     let a = c .before .before .before .args in
     let p = c .before .before .before .pre in
-    let e = slope-up-to-300 (a .s) (a .v) (c .before .before .if1 .left) (c .before .if2 .taken) (c .slow-slope .ensures .0) in
+    let e =
+    slope-up-to-300 (a .s) (a .v) (c .before .before .if1 .left) (c .before .if2 .taken)
+    (c .slow-slope .ensures .0) in
     (e, rw e (slope-sized (p .0) (p .1)))
 
 fast-slope-requires : tie.Need-fast-slope-requires
@@ -38,7 +40,9 @@ returns-3 : tie.Need-returns-3
 returns-3 c =
     let a = c .before .before .before .before .args in
     let p = c .before .before .before .before .pre in
-    let e = slope-below-760 (a .s) (a .v) (c .before .before .before .if1 .left) (c .before .before .if2 .left) (c .before .if3 .taken) (c .fast-slope .ensures .0) in
+    let e =
+    slope-below-760 (a .s) (a .v) (c .before .before .before .if1 .left) (c .before .before .if2 .left)
+    (c .before .if3 .taken) (c .fast-slope .ensures .0) in
     (e, rw e (slope-sized (p .0) (p .1)))
 
 exact-requires-2 : tie.Need-exact-requires-2
@@ -48,7 +52,9 @@ returns-4 : tie.Need-returns-4
 returns-4 c =
     let a = c .before .before .before .before .args in
     let p = c .before .before .before .before .pre in
-    let e = slope-from-760 (a .s) (a .v) (c .before .before .before .if1 .left) (c .before .before .if2 .left) (c .before .if3 .left) (c .exact2 .ensures) in
+    let e =
+    slope-from-760 (a .s) (a .v) (c .before .before .before .if1 .left) (c .before .before .if2 .left)
+    (c .before .if3 .left) (c .exact2 .ensures) in
     (e, rw e (slope-sized (p .0) (p .1)))
 
 pub slope-spec : {M : Type 1} → statement M

@@ -33,7 +33,8 @@ mul-multiple-2 c = search needs
 multiple-requires : tie.Need-multiple-requires
 multiple-requires c κs =
     let p = c .before .before .before .before .pre in
-    rw (c .before .before .product .ensures, c .before .before .before .ln .ensures) (multiple-takes _ (slow-ratio (p .0) (p .1) (p .2)) (omega (arith, p .0 .apart)))
+    rw (c .before .before .product .ensures, c .before .before .before .ln .ensures)
+    (multiple-takes _ (slow-ratio (p .0) (p .1) (p .2)) (omega (arith, p .0 .apart)))
 
 mul-exact : tie.Need-mul-exact
 mul-exact c = search needs
@@ -44,7 +45,12 @@ exact-requires c κs = search needs
 sum-requires : tie.Need-sum-requires
 sum-requires c κs =
     let p = c .before .before .before .before .before .before .pre in
-    rw (c .before .multiple .ensures, c .before .before .before .before .product .ensures, c .before .before .before .before .before .ln .ensures, c .exact .ensures)
+    rw (
+      c .before .multiple .ensures,
+      c .before .before .before .before .product .ensures,
+      c .before .before .before .before .before .ln .ensures,
+      c .exact .ensures,
+    )
     (sum-takes (slow-term (p .0) (p .1) (p .2)) (level-sized (p .0) (p .1)) (omega arith))
 
 returns : tie.Need-returns
@@ -52,7 +58,9 @@ returns c =
     let a = c .before .before .before .before .before .before .before .args in
     let p = c .before .before .before .before .before .before .before .pre in
     let e =
-    slow-is (a .s) (a .v) (c .before .before .before .before .before .before .ln .ensures) (c .before .before .before .before .before .product .ensures) (c .before .before .multiple .ensures) (c .before .exact .ensures) (c .sum .ensures) in
+    slow-is (a .s) (a .v) (c .before .before .before .before .before .before .ln .ensures)
+    (c .before .before .before .before .before .product .ensures) (c .before .before .multiple .ensures)
+    (c .before .exact .ensures) (c .sum .ensures) in
     (e, rw e (slow-sized (p .0) (p .1) (p .2)))
 
 pub slow-slope-spec : {M : Type 1} → statement M

@@ -18,8 +18,11 @@ cubic-requires c κs = search needs
 returns : tie.Need-returns
 returns c =
     let a = c .before .before .before .before .args in
-    let q = c .cubic .ensures .0 ∙ ap cubicOf (c .before .transition-z .ensures .0) in
-    (branch-from-is (a .b) minusLnA2 (cubicOf (zOf (a .b))) (straightOf (a .b)) (omega arith) (c .before .before .if1 .taken) q, c .cubic .ensures .1)
+    let q = c .cubic .ensures .0 ∙ ap cubicOf (c .before .transition-z .ensures .0) in (
+      branch-from-is (a .b) minusLnA2 (cubicOf (zOf (a .b))) (straightOf (a .b)) (omega arith)
+          (c .before .before .if1 .taken) q,
+      c .cubic .ensures .1,
+    )
 
 straight-requires : tie.Need-straight-requires
 straight-requires c κs = search needs
@@ -27,8 +30,10 @@ straight-requires c κs = search needs
 returns-2 : tie.Need-returns-2
 returns-2 c =
     let a = c .before .before .before .before .before .args in
-    let s = c .before .before .straight in
-    (branch-below-is (a .b) minusLnA2 (cubicOf (zOf (a .b))) (straightOf (a .b)) (c .if2 .taken) (s .ensures .0), s .ensures .1)
+    let s = c .before .before .straight in (
+      branch-below-is (a .b) minusLnA2 (cubicOf (zOf (a .b))) (straightOf (a .b)) (c .if2 .taken) (s .ensures .0),
+      s .ensures .1,
+    )
 
 transition-z-requires-2 : tie.Need-transition-z-requires-2
 transition-z-requires-2 c κs = search needs
@@ -45,7 +50,9 @@ returns-3 c =
     let p = c .before .before .before .before .before .before .before .before .pre in
     let q = c .before .cubic2 .ensures .0 ∙ ap cubicOf (c .before .before .transition-z2 .ensures .0) in
     let e =
-    branch-both-is (a .b) minusLnA2 (cubicOf (zOf (a .b))) (straightOf (a .b)) (c .before .before .before .if2 .left) (omega (arith, c .before .before .before .before .before .before .if1 .left)) q (c .before .before .before .before .before .straight .ensures .0)
+    branch-both-is (a .b) minusLnA2 (cubicOf (zOf (a .b))) (straightOf (a .b)) (c .before .before .before .if2 .left)
+    (omega (arith, c .before .before .before .before .before .before .if1 .left)) q
+    (c .before .before .before .before .before .straight .ensures .0)
     (c .span .ensures) in
     (e, rw e (upper-sized (p .0) (p .1)))
 

@@ -12,10 +12,13 @@ idriss-row-requires : tie.Need-idriss-row-requires
 idriss-row-requires c κs = search needs
 
 mul-result : tie.Need-mul-result
-mul-result c = let l = period-listed (c .before .args .t) (c .before .pre) in record { fits = omega (arith, l .row, c .idriss-row .ensures) }
+mul-result c =
+    let l = period-listed (c .before .args .t)
+    (c .before .pre) in record { fits = omega (arith, l .row, c .idriss-row .ensures) }
 
 array-copy-out-result : tie.Need-array-copy-out-result
-array-copy-out-result c = let l = period-listed (c .before .args .t) (c .before .pre) in rw (c .idriss-row .ensures) (l .row)
+array-copy-out-result c =
+    let l = period-listed (c .before .args .t) (c .before .pre) in rw (c .idriss-row .ensures) (l .row)
 
 returns : tie.Need-returns
 unfolding periodLogarithm
