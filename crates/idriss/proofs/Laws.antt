@@ -17,7 +17,7 @@ use Rattle.logarithm.specs.declared.Ends as natural
 use Rattle.logarithm.proofs.Enclosure.{Known, encloses}
 use Rattle.outward.proofs.Laws.{Held, HeldBelow, multiple-held, minus-held, lies-between, narrow-between}
 use Rattle.idriss.specs.Tables.{Row, rowAt}
-use Rattle.idriss.specs.Median.{tenThousandths, hundredths, alphaPart, betaFactor, F, anelasticAndFaultPart, median}
+use Rattle.idriss.specs.Median.{tenThousandths, hundredths, alphaPart, betaFactor, F, median}
 use Rattle.idriss.specs.Promise.{MedianDomain, medianWidth, MedianEnds}
 use Rattle.idriss.specs.Evaluation.{parts, TableLimits, alphaSum, betaOf, gainsOf, lossesOf, distanceTermOf, siteTermOf, medianOf}
 use Rattle.idriss.proofs.Rows.{row-limits}
@@ -50,16 +50,21 @@ module _ (r : Row) where
       (mul-Is (printed (r .α3)) (mul-Is (rest-Is h) (rest-Is h)))) _ _ (omega arith)
 
   module _ (l : TableLimits r) where
-    linear-lies : (d mechanism : ℕ) →
-        let gain : ℕ = 10_000_000 * (up (r .φ) * F mechanism) in
+    -- γ R, and φ F
+    anelastic-lies : (d : ℕ) →
         let loss : ℕ = 1_000 * (down (r .γ) * d) in
-        Lies (anelasticAndFaultPart r d mechanism) gain loss gain loss
-    unfolding anelasticAndFaultPart up down
-    linear-lies d mechanism =
+        Lies (tenThousandths (r .γ) *q hundredths d) 0 loss 0 loss
+    anelastic-lies d =
+        lies-stated (mul-Is (over-below (r .γ) 10_000 (omega arith) (l .gamma-below)) (hundredths-Is d)) _ _ (omega arith)
+
+    fault-lies : (mechanism : ℕ) →
+        let gain : ℕ = 10_000_000 * (up (r .φ) * F mechanism) in
+        Lies (r .φ over 100 *q pos (F mechanism) over 1) gain 0 gain 0
+    unfolding up down
+    fault-lies mechanism =
         lies-stated
-        (add-Is (mul-Is (over-below (r .γ) 10_000 (omega arith) (l .gamma-below)) (hundredths-Is d))
-        (mul-Is (over-above (r .φ) 100 (omega arith) (l .phi-above))
-        (over-Is (pos (F mechanism)) 1 (omega arith)))) _ _ (omega arith)
+        (mul-Is (over-above (r .φ) 100 (omega arith) (l .phi-above)) (over-Is (pos (F mechanism)) 1 (omega arith))) _ _
+        (omega arith)
 
     -- β1 + β2 M
     beta-Is : {m : ℕ} → 450 ≤ m → m ≤ 790 → Is (betaFactor r m) (500 * betaOf (parts r) m) 0 10_000_000_000
@@ -109,9 +114,11 @@ module _ (r : Row) where
       unfolding median value gainsOf lossesOf
       median-held σ known =
           lies-between
-          (lies-sum (lies-sum (lies-difference (alpha-lies high) (far-held known low high near)) (site-held known slow))
-          (linear-lies d mechanism)) gain (loss + far .high + site .high) gain (loss + far .low + site .low) (omega
-          arith) (omega arith)
+          (lies-sum
+          (lies-sum
+          (lies-sum (lies-difference (alpha-lies high) (far-held known low high near)) (site-held known slow))
+          (anelastic-lies d)) (fault-lies mechanism)) gain (loss + far .high + site .high) gain
+          (loss + far .low + site .low) (omega arith) (omega arith)
 
       pub median-ends : MedianEnds r m d v mechanism (medianOf r m d v mechanism)
       unfolding median Sound medianOf
@@ -124,7 +131,7 @@ module _ (r : Row) where
           let losses = losses-small (l .sizes) high near in
           record {
             encloses =
-                encloses (((tt, (tt, (omega arith, omega arith))), (tt, (omega arith, omega arith))), tt) median-held;
+                encloses ((((tt, (tt, (omega arith, omega arith))), (tt, (omega arith, omega arith))), tt), tt) median-held;
             narrow =
                 narrow-between gain (loss + far .high + site .high) gain (loss + far .low + site .low) medianWidth
                 (omega (arith, far-sizes .narrow, site-sizes .narrow));

@@ -32,15 +32,11 @@ betaFactor r magnitude = tenThousandths (r .β1) +q tenThousandths (r .β2) *q h
 unfoldable pub F : ℕ → ℕ
 F mechanism = cond (among (2 ∷ 3 ∷ 4 ∷ []) mechanism) 1 0
 
--- "γ R + φ F"
-unfoldable pub anelasticAndFaultPart : Row → ℕ → ℕ → Fraction
-anelasticAndFaultPart r ruptureDistance mechanism =
-    tenThousandths (r .γ) *q hundredths ruptureDistance +q r .φ over 100 *q pos (F mechanism) over 1
-
 -- R + 10 is R's hundredths and 1000 over 100; V is in tenths, and "V above 1200 counts as 1200"
 unfoldable pub median : Row → ℕ → ℕ → ℕ → ℕ → Formula
 median r magnitude ruptureDistance velocity mechanism =
     stated (alphaPart r magnitude)
     ⊖ stated (betaFactor r magnitude) ⊗ ln (ruptureDistance + 1_000) 100
     ⊕ stated (r .ξ over 1_000) ⊗ ln (min velocity 12_000) 10
-    ⊕ stated (anelasticAndFaultPart r ruptureDistance mechanism)
+    ⊕ stated (tenThousandths (r .γ) *q hundredths ruptureDistance)
+    ⊕ stated (r .φ over 100 *q pos (F mechanism) over 1)
