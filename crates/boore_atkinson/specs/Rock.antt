@@ -56,11 +56,11 @@ e r mechanism = cond (eqb mechanism 9) (r .e1) (cond (eqb mechanism 0) (r .e2) (
 -- "magnitude term e + e5 (M − Mh) + e6 (M − Mh)² up to and including Mh, e + e7 (M − Mh) above"
 unfoldable pub magnitudeTerm : MagnitudeScaling → ℕ → ℕ → Fraction
 magnitudeTerm r magnitude mechanism =
+    let level : Fraction = hundredThousandths (e r mechanism) in
     let away : Fraction = hundredths magnitude -q hundredths (r .Mh) in
     cond (leb magnitude (r .Mh))
-    (hundredThousandths (e r mechanism) +q hundredThousandths (r .e5) *q away +q hundredThousandths (r .e6) *q
-    (away *q away))
-    (hundredThousandths (e r mechanism) +q hundredThousandths (r .e7) *q away)
+    (level +q hundredThousandths (r .e5) *q away +q hundredThousandths (r .e6) *q (away *q away))
+    (level +q hundredThousandths (r .e7) *q away)
 
 -- the motion of a row with no site term
 unfoldable pub onRock : Row → ℕ → ℕ → ℕ → Formula

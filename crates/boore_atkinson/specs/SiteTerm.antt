@@ -18,18 +18,25 @@ b2Of s = s .b2 over 100
 unfoldable pub linearPart : SiteAmplification → ℕ → Formula
 linearPart s velocity = stated (s .blin over 1_000) ⊗ ln velocity (10 * vref)
 
+-- the slope between V1 and V2, and between V2 and Vref (equations 13b and 13c)
+abbrev pub upToV2 : SiteAmplification → ℕ → Formula
+upToV2 s velocity =
+    stated (b1Of s -q b2Of s) ⊗ ln (10 * v2) velocity ⊘ ln (10 * v2) (10 * v1) ⊕ stated (b2Of s)
+
+abbrev pub belowVref : SiteAmplification → ℕ → Formula
+belowVref s velocity = stated (b2Of s) ⊗ ln (10 * vref) velocity ⊘ ln (10 * vref) (10 * v2)
+
 -- "Slope bnl: b1 up to 180; up to 300, (b1 − b2) ln(V/300) / ln(180/300) + b2; below 760, b2 ln(V/760) / ln(300/760);
 -- from 760 on, 0. (Turn both logarithms over, so that the divisor is above zero.)" (equations 13a to 13d)
 unfoldable pub bnl : SiteAmplification → ℕ → Formula
 bnl s velocity =
     cond (leb velocity (10 * v1)) (stated (b1Of s))
-    (cond (leb velocity (10 * v2)) (stated (b1Of s -q b2Of s) ⊗ ln (10 * v2) velocity ⊘ ln (10 * v2) (10 * v1) ⊕ stated
-    (b2Of s))
-    (cond (ltb velocity (10 * vref)) (stated (b2Of s) ⊗ ln (10 * vref) velocity ⊘ ln (10 * vref) (10 * v2))
+    (cond (leb velocity (10 * v2)) (upToV2 s velocity)
+    (cond (ltb velocity (10 * vref)) (belowVref s velocity)
     (stated zeroQ)))
 
--- "x = ln 3", and "y = bnl ln 1.5" (equations 11 and 12: Δx = ln(a2/a1) = ln(9/3), Δy = bnl ln(a2/pga_low) = bnl
--- ln(9/6))
+-- "x = ln 3", and "y = bnl ln 1.5" (equations 11 and 12: Δx = ln(a2/a1) = ln(9/3), Δy = bnl ln(a2/pga_low), which is
+-- bnl ln(9/6))
 unfoldable pub x : Formula
 x = ln 3 1
 
