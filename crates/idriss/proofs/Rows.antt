@@ -15,7 +15,7 @@ use Rattle.scenario.specs.Refusal.{idriss, idrissRow}
 use Rattle.scenario.proofs.ListLaws.{all, all-at}
 use Rattle.idriss.specs.declared.table.Row as code
 use Rattle.idriss.specs.Tables.{Row, table2, table3, noRow, takesTable3, rowAt, rowFor, ownPeriod}
-use Rattle.idriss.specs.Evaluation.{parts, TableLimits}
+use Rattle.idriss.specs.Evaluation.{parts, placeOf, TableLimits}
 
 -- the limits, each as two numbers in order
 abbrev limits : Row → List (ℕ × ℕ)
@@ -88,10 +88,7 @@ after : {A : Type 0} (none : A) (xs ys : List A) (k : ℕ) → getD (xs ++ ys) (
 after none [] ys k = rw zero-add refl
 after none (x ∷ xs) ys k = rw (suc-add (length xs) k) (after none xs ys k)
 
-pub table-2 : (k : ℕ) → k < 22 → getD (table2 ++ table3) k noRow ≡ rowAt false k
+pub at-place : (third : Bool) (k : ℕ) → k < 22 → getD (table2 ++ table3) (placeOf third k) noRow ≡ rowAt third k
 unfolding rowAt
-table-2 k h = List·getD-append table2 table3 noRow k h
-
-pub table-3 : (k : ℕ) → getD (table2 ++ table3) (22 + k) noRow ≡ rowAt true k
-unfolding rowAt
-table-3 k = after noRow table2 table3 k
+at-place true k h = after noRow table2 table3 k
+at-place false k h = List·getD-append table2 table3 noRow k h

@@ -2,7 +2,7 @@
 ghost use mathlib.Core.Path.{_≡_};
 ghost use Prim.Native.Nat.{_<_};
 ghost use Rattle.idriss.specs.Tables.{rowAt};
-ghost use Rattle.idriss.specs.Evaluation.{parts, RowLimits};
+ghost use Rattle.idriss.specs.Evaluation.{parts, placeOf, RowLimits};
 
 // α1, −α1, α2, −α2, α3, −α3, β1, −β2, −ξ, −γ, φ; of a number and its negative, the one below zero stands as 0.
 pub struct Row(
@@ -67,13 +67,21 @@ const TABLES: [Row; 44] = [
     Row(0, 44387, 8393, 0, 0, 35, 14195, 1145, 586, 61, 0),
 ];
 
+// The place of row k of Table 3 where `third`, else of Table 2.
+fn place(third: bool, k: usize) -> usize
+    requires { ⌜ k < 22 ⌝ }
+    ensures { λ i. ⌜ (i ≡ placeOf third k) × (i < 44) ⌝ }
+{
+    if third {
+        return 22 + k;
+    }
+    k
+}
+
 // Row k of Table 3 where `third`, else of Table 2.
 pub fn row_at(third: bool, k: usize) -> Row
     requires { ⌜ k < 22 ⌝ }
     ensures { λ r. ⌜ (r ≡ parts (rowAt third k)) × RowLimits r ⌝ }
 {
-    if third {
-        return TABLES[22 + k];
-    }
-    TABLES[k]
+    TABLES[place(third, k)]
 }

@@ -1,0 +1,18 @@
+-- `table::place` meets its contract.
+use mathlib.Core.Path.{refl}
+use native.Mathlib.Omega.{arith}
+use borrow.Author.Needs.{needs}
+use Rattle.idriss.proofs.table.place.Statement.{statement}
+use Rattle.idriss.proofs.table.place.Tie as tie
+
+add-result : tie.Need-add-result
+add-result c = search needs
+
+returns : tie.Need-returns
+returns c = rw (c .if1 .taken) (refl, omega (arith, c .before .pre))
+
+returns-2 : tie.Need-returns-2
+returns-2 c = search needs
+
+pub place-spec : {M : Type 1} → statement M
+place-spec = tie.close (tie.spec add-result returns returns-2)
