@@ -29,6 +29,7 @@ outside: probe
 # A program over the proved libraries, for the tests.
 probe: need
 	mkdir -p target/tests
+	rt check probe record_probe model_probe > target/tests/check.log 2>&1 || { cat target/tests/check.log; exit 1; }
 	for library in probe record_probe model_probe; do \
 	    rt staticlib $$library > target/tests/$$library.log 2>&1 || { cat target/tests/$$library.log; exit 1; }; \
 	done
