@@ -7,7 +7,7 @@ SHELL := /bin/bash
 CC := gcc
 PROBE := target/tests/probe
 
-.PHONY: run test definitions outside probe need
+.PHONY: run test definitions outside test_logarithm test_records test_models probe need
 .SILENT:
 
 run: probe
@@ -17,7 +17,7 @@ run: probe
 test: definitions
 	rt fmt --check
 	set -o pipefail; verdict=$$(mktemp); \
-	rt ci 2>&1 | tee $$verdict && $(MAKE) --no-print-directory outside && tail -n 1 $$verdict; \
+	rt ci 2>&1 | tee $$verdict && $(MAKE) --no-print-directory -j 2 -O outside && tail -n 1 $$verdict; \
 	status=$$?; rm -f $$verdict; exit $$status
 
 # The tests outside Rattle of what the definitions say, and of the program.
@@ -27,10 +27,10 @@ definitions: need
 	python3 tests/test_values.py
 	python3 tests/test_coefficients.py
 
-outside: probe
-	python3 tests/test_logarithm.py $(PROBE)
-	python3 tests/test_records.py $(PROBE)
-	python3 tests/test_models.py $(PROBE)
+outside: test_logarithm test_records test_models
+
+test_logarithm test_records test_models: test_%: probe
+	python3 tests/$@.py $(PROBE)
 
 # A program over the proved libraries, for the tests.
 probe: need
