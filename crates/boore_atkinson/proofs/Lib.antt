@@ -8,3 +8,4 @@ pub mod SiteSizes
 pub mod Laws
 pub mod Sums
 pub mod Thresholds
+pub mod Accepted

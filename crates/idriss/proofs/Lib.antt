@@ -4,3 +4,4 @@ pub mod Listed
 pub mod Sums
 pub mod Laws
 pub mod SigmaLaws
+pub mod Accepted

@@ -53,7 +53,7 @@ pub record Accepted (s : List ℕ) : Type 0 where
   pub apart : absentWritten layout (mapIn s) (scenarioIn s) ≡ false
   pub taken : refusalOf (scenarioIn s) ≡ 0
 
-accepted : (s : List ℕ) → readRefusal s ≡ 0 → Accepted s
+pub accepted : (s : List ℕ) → readRefusal s ≡ 0 → Accepted s
 unfolding fieldRefusal
 accepted s e =
     let a = none-of (frontRefusal s) (fieldRefusal (mapIn s) (scenarioIn s)) (in-two s ∙ e) in

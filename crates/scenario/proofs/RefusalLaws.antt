@@ -75,6 +75,12 @@ of-model s e = go (eqb (s .model) 1) (eqb (s .model) 2) refl refl e
     go false true p q e = inr (eqb-true (s .model) 2 q, within booreAtkinson s e)
     go false false p q e = absurd (omega arith)
 
+pub within-idriss : (s : Scenario) → s .model ≡ 1 → refusalOf s ≡ 0 → Within idriss s
+within-idriss s m e = elim (of-model s e) [ inl p ↦ p .1 | inr p ↦ absurd (omega (arith, m, p .0)) ]
+
+pub within-boore-atkinson : (s : Scenario) → s .model ≡ 2 → refusalOf s ≡ 0 → Within booreAtkinson s
+within-boore-atkinson s m e = elim (of-model s e) [ inl p ↦ absurd (omega (arith, m, p .0)) | inr p ↦ p .1 ]
+
 -- and no number of it is greater than these
 pub record Sizes (s : Scenario) : Type 0 where
   pub model : s .model ≤ 2

@@ -2,9 +2,10 @@
 use mathlib.Core.Path.{_∙_, ap, refl}
 use borrow.Author.Tests.{le-leb, lt-leb}
 use borrow.Author.Needs.{needs}
+use Rattle.boore_atkinson.proofs.Accepted.{median-domain}
 use Rattle.boore_atkinson.proofs.Laws.{medianOf-promise}
 use Rattle.model_probe.specs.Probe.{scenarioFrom, told, probedBooreAtkinson}
-use Rattle.model_probe.proofs.Domains.{within-second, is-told, is-none, second-domain}
+use Rattle.model_probe.proofs.Domains.{within-second, is-told, is-none}
 use Rattle.model_probe.proofs.probe_boore_atkinson.Statement.{statement}
 use Rattle.model_probe.proofs.probe_boore_atkinson.Tie as tie
 
@@ -22,14 +23,14 @@ median-requires : tie.Need-median-requires
 median-requires c κs =
     let a = c .before .before .before .args in
     let s = scenarioFrom 2 (a .magnitude) (a .projection-distance) (a .velocity) (a .mechanism) 0 in
-    second-domain s (c .before .before .if1 .left) (within-second s (c .before .accepted .ensures) refl (c .if2 .taken))
+    median-domain s (c .before .before .if1 .left) (within-second s (c .before .accepted .ensures) refl (c .if2 .taken))
 
 tell-requires : tie.Need-tell-requires
 tell-requires c κs =
     let a = c .before .before .before .before .args in
     let s = scenarioFrom 2 (a .magnitude) (a .projection-distance) (a .velocity) (a .mechanism) 0 in
     let d =
-    second-domain s (c .before .before .before .if1 .left)
+    median-domain s (c .before .before .before .if1 .left)
     (within-second s (c .before .before .accepted .ensures) refl (c .before .if2 .taken)) in
     rw (c .median .ensures) (medianOf-promise (a .mechanism) d .small)
 

@@ -3,9 +3,10 @@ use mathlib.Core.Path.{_∙_, ap, refl}
 use borrow.Author.Tests.{le-leb, lt-leb}
 use borrow.Author.Needs.{needs}
 use lib.Dec.{eqb}
+use Rattle.idriss.proofs.Accepted.{median-domain}
 use Rattle.idriss.proofs.Laws.{medianOf-promise}
 use Rattle.model_probe.specs.Probe.{scenarioFrom, told, probedIdriss}
-use Rattle.model_probe.proofs.Domains.{within-idriss, is-told, is-none, idriss-domain}
+use Rattle.model_probe.proofs.Domains.{within-idriss, is-told, is-none}
 use Rattle.model_probe.proofs.probe_idriss.Statement.{statement}
 use Rattle.model_probe.proofs.probe_idriss.Tie as tie
 
@@ -23,14 +24,14 @@ median-requires : tie.Need-median-requires
 median-requires c κs =
     let a = c .before .before .before .args in
     let s = scenarioFrom 1 (a .magnitude) (a .rupture-distance) (a .velocity) (a .mechanism) 0 in
-    idriss-domain s (c .before .before .if1 .left) (within-idriss s (c .before .accepted .ensures) refl (c .if2 .taken))
+    median-domain s (c .before .before .if1 .left) (within-idriss s (c .before .accepted .ensures) refl (c .if2 .taken))
 
 tell-requires : tie.Need-tell-requires
 tell-requires c κs =
     let a = c .before .before .before .before .args in
     let s = scenarioFrom 1 (a .magnitude) (a .rupture-distance) (a .velocity) (a .mechanism) 0 in
     let d =
-    idriss-domain s (c .before .before .before .if1 .left)
+    median-domain s (c .before .before .before .if1 .left)
     (within-idriss s (c .before .before .accepted .ensures) refl (c .before .if2 .taken)) in
     rw (c .median .ensures) (medianOf-promise (eqb (a .table) 3) (a .mechanism) d .small)
 

@@ -1,0 +1,39 @@
+-- `answer_record` meets its contract.
+use mathlib.Core.Path.{_∙_, ap, sym}
+use borrow.Author.Needs.{needs}
+use denote.Ref.{now}
+use Rattle.record.specs.Outcome.{scenarioIn, readRefusal}
+use Rattle.record.proofs.ReadingLaws.{read-as}
+use Rattle.engine.specs.declared.Answer.the-variants as A
+use Rattle.engine.specs.Evaluation.{recordAnswerOf}
+use Rattle.engine.proofs.Laws.{answers}
+use Rattle.engine.proofs.RecordLaws.{read-accepted, record-enclosed, record-refused}
+use Rattle.engine.proofs.answer_record.Statement.{statement}
+use Rattle.engine.proofs.answer_record.Tie as tie
+
+accepted : tie.Need-by-model-requires
+accepted c κs =
+    let r = read-as _ _ _ (sym (c .before .before .before .read .ensures .0) ∙ c .before .s .given .1) in
+    rw (r .scenario) at (r .passes .taken)
+
+enclosed : tie.Need-returns
+unfolding recordAnswerOf
+enclosed c =
+    let k = c .before .before .before .before in
+    let s = now (k .before .before .args .bytes) in
+    answers (scenarioIn s) (readRefusal s) (read-accepted s)
+    (ap A.Enclosed (c .by-model .ensures)
+    ∙ record-enclosed s _ _ (sym (k .read .ensures .0) ∙ c .before .before .s .given .1))
+
+refused : tie.Need-returns-2
+unfolding recordAnswerOf
+refused c =
+    let k = c .before .before .before in
+    let s = now (k .before .before .args .bytes) in
+    answers (scenarioIn s) (readRefusal s) (read-accepted s)
+    (record-refused s _ (sym (k .read .ensures .0) ∙ c .before .k .given .1))
+
+pub answer-record-spec : {M : Type 1} → statement M
+answer-record-spec =
+    tie.close
+    (tie.spec (λ c κs. search needs) (λ c. search needs) accepted (λ c. search needs) enclosed refused)

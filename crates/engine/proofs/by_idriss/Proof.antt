@@ -1,0 +1,36 @@
+-- `by_idriss` meets its contract.
+use mathlib.Core.Path.{_≡_, refl, ap}
+use mathlib.Core.Logic.{inl, inr}
+use native.Mathlib.Omega.{arith}
+use borrow.Author.Needs.{needs}
+use Rattle.scenario.proofs.RefusalLaws.{within-idriss}
+use Rattle.scenario.proofs.RowLaws.{idriss-row}
+use Rattle.idriss.specs.Tables.{rowFor}
+use Rattle.idriss.proofs.Accepted.{median-domain, sigma-domain}
+use Rattle.engine.specs.Evaluation.{enclosureOf}
+use Rattle.engine.proofs.by_idriss.Statement.{statement}
+use Rattle.engine.proofs.by_idriss.Tie as tie
+
+median-takes : tie.Need-median-requires
+median-takes c κs =
+    let k = c .before .before in
+    let s = k .args .s in
+    let w = within-idriss s (k .pre .0) (k .pre .1) in
+    median-domain s (rw (c .idriss-row .ensures) (idriss-row (s .period) (w .period))) w
+
+sigma-takes : tie.Need-sigma-requires
+sigma-takes c κs =
+    let k = c .before .before .before in
+    sigma-domain (k .args .s) (within-idriss (k .args .s) (k .pre .0) (k .pre .1))
+
+returns : tie.Need-returns
+unfolding enclosureOf rowFor
+returns c =
+    let m = c .before in
+    let r = m .before in
+    let t = r .before in
+    rw (t .before .pre .0, c .sigma .ensures, m .median .ensures, r .idriss-row .ensures, t .takes-table-3 .ensures) refl
+
+pub by-idriss-spec : {M : Type 1} → statement M
+by-idriss-spec =
+    tie.close (tie.spec (λ c κs. search needs) (λ c κs. search needs) median-takes sigma-takes returns)

@@ -1,0 +1,3 @@
+pub mod Models
+pub mod Promise
+pub mod Evaluation

@@ -1,0 +1,38 @@
+-- What the model of a scenario gives, as the papers have it, and how far apart the ends of an answer may be.
+use mathlib.Core.Bool.{cond}
+use Prim.Native.Nat.{ℕ}
+use lib.Dec.{eqb}
+use Rattle.exact.specs.Formula.{Formula}
+use Rattle.scenario.specs.declared.Scenario.{Scenario}
+use Rattle.idriss.specs.Tables.{rowFor as idrissRowFor}
+use Rattle.idriss.specs.Median.{median as idrissMedian}
+use Rattle.idriss.specs.Sigma.{sigma as idrissSigma}
+use Rattle.boore_atkinson.specs.Tables.{rowFor as booreAtkinsonRowFor, totalFor as booreAtkinsonTotalFor}
+use Rattle.boore_atkinson.specs.Median.{median as booreAtkinsonMedian, sigma as booreAtkinsonSigma}
+
+-- x of an Idriss scenario, y of a Boore-Atkinson scenario: "model 1" and "model 2" ('The scenario')
+module _ {A : Type 0} where
+  abbrev pub byModel : Scenario → A → A → A
+  byModel s x y = cond (eqb (s .model) 1) x y
+
+-- "the exact natural logarithm that the model gives with its printed coefficients" (demand 3)
+unfoldable pub median : Scenario → Formula
+median s =
+    byModel s
+    (idrissMedian (idrissRowFor (s .magnitude) (s .period)) (s .magnitude) (s .distance) (s .velocity) (s .mechanism))
+    (booreAtkinsonMedian (booreAtkinsonRowFor (s .period)) (s .magnitude) (s .distance) (s .velocity) (s .mechanism))
+
+-- "the model's exact sigma" (demand 3)
+unfoldable pub sigma : Scenario → Formula
+sigma s =
+    byModel s
+    (idrissSigma (s .period) (s .magnitude))
+    (booreAtkinsonSigma (booreAtkinsonTotalFor (s .period)) (s .mechanism))
+
+-- "at most 100 units of 10^-9 apart for Idriss and 2,000 for Boore-Atkinson" (demand 3)
+unfoldable pub medianWidth : Scenario → ℕ
+medianWidth s = byModel s 100 2_000
+
+-- "at most 10 units apart" (demand 3)
+abbrev pub sigmaWidth : ℕ
+sigmaWidth = 10

@@ -1,0 +1,141 @@
+// Answers a scenario, from its fields or from its record, with ends of median and sigma that enclose the exact values, in
+// whole units of 10^-9 or in doubles, or with the number of its refusal.
+ghost use mathlib.Core.Path.{_≡_};
+ghost use Prim.Native.Nat.{_^_, _<_};
+ghost use lib.Signed.{mag};
+ghost use Rattle.scenario.specs.Refusal.{refusalOf};
+ghost use Rattle.record.specs.Outcome.{scenarioIn, readRefusal};
+ghost use Rattle.engine.specs.Promise.{AnswerPromise, DoublesPromise};
+ghost use Rattle.engine.specs.Evaluation.{enclosureOf, answerOf, recordAnswerOf, SmallEnclosure, SmallAnswer};
+ghost use Rattle.engine.specs.Evaluation.{doubleOf, doublesOf, inDoubles};
+use record::Reading;
+use scenario::Scenario;
+use signed::Ends;
+
+// The ends of the median and those of sigma.
+pub struct Enclosure {
+    pub median: Ends,
+    pub sigma: Ends,
+}
+
+// What answering gives: four ends, or the number with which it is turned away.
+pub enum Answer {
+    Enclosed(Enclosure),
+    Refused(u8),
+}
+
+// The four ends as doubles.
+pub struct Doubles {
+    pub median_low: f64,
+    pub median_high: f64,
+    pub sigma_low: f64,
+    pub sigma_high: f64,
+}
+
+// What answering in doubles gives.
+pub enum DoublesAnswer {
+    Enclosed(Doubles),
+    Refused(u8),
+}
+
+fn by_idriss(s: Scenario) -> Enclosure
+    requires { ⌜ (s .model ≡ 1) × (refusalOf s ≡ 0) ⌝ }
+    ensures { λ r. ⌜ r ≡ enclosureOf s ⌝ }
+{
+    let third = idriss::takes_table_3(s.magnitude);
+    let k = scenario::idriss_row(s.period);
+    Enclosure {
+        median: idriss::median(third, k, s.magnitude, s.distance, s.velocity, s.mechanism),
+        sigma: idriss::sigma(s.period, s.magnitude),
+    }
+}
+
+fn by_boore_atkinson(s: Scenario) -> Enclosure
+    requires { ⌜ (s .model ≡ 2) × (refusalOf s ≡ 0) ⌝ }
+    ensures { λ r. ⌜ r ≡ enclosureOf s ⌝ }
+{
+    let k = scenario::boore_atkinson_row(s.period);
+    Enclosure {
+        median: boore_atkinson::median(k, s.magnitude, s.distance, s.velocity, s.mechanism),
+        sigma: boore_atkinson::sigma(k, s.mechanism),
+    }
+}
+
+// By the scenario's own model.
+fn by_model(s: Scenario) -> Enclosure
+    requires { ⌜ refusalOf s ≡ 0 ⌝ }
+    ensures { λ r. ⌜ r ≡ enclosureOf s ⌝ }
+{
+    if s.model == 1 {
+        return by_idriss(s);
+    }
+    by_boore_atkinson(s)
+}
+
+// Answers a scenario of any fields.
+pub fn answer_fields(s: Scenario) -> Answer
+    ensures { λ r. ⌜ r ≡ answerOf s ⌝ }
+    ensures { λ r. ⌜ AnswerPromise (refusalOf s) s r ⌝ }
+{
+    let k = scenario::refusal(s);
+    if k != 0 {
+        return Answer::Refused(k);
+    }
+    Answer::Enclosed(by_model(s))
+}
+
+// Answers the record at the front of any bytes.
+pub fn answer_record(bytes: &[u8]) -> Answer
+    ensures { λ r. ⌜ r ≡ recordAnswerOf (now (bytes .entry)) ⌝ }
+    ensures { λ r. ⌜ AnswerPromise (readRefusal (now (bytes .entry))) (scenarioIn (now (bytes .entry))) r ⌝ }
+{
+    match record::read(bytes) {
+        Reading::Read(s, _) => Answer::Enclosed(by_model(s)),
+        Reading::Refused(k) => Answer::Refused(k),
+    }
+}
+
+fn double(z: i64) -> f64
+    requires { ⌜ mag z < 2 ^ 53 ⌝ }
+    ensures { λ r. ⌜ r ≡ doubleOf z ⌝ }
+{
+    z as f64
+}
+
+fn as_doubles(e: Enclosure) -> Doubles
+    requires { ⌜ SmallEnclosure e ⌝ }
+    ensures { λ r. ⌜ r ≡ doublesOf e ⌝ }
+{
+    Doubles {
+        median_low: double(e.median.low),
+        median_high: double(e.median.high),
+        sigma_low: double(e.sigma.low),
+        sigma_high: double(e.sigma.high),
+    }
+}
+
+fn in_doubles(a: Answer) -> DoublesAnswer
+    requires { ⌜ SmallAnswer a ⌝ }
+    ensures { λ r. ⌜ r ≡ inDoubles a ⌝ }
+{
+    match a {
+        Answer::Enclosed(e) => DoublesAnswer::Enclosed(as_doubles(e)),
+        Answer::Refused(k) => DoublesAnswer::Refused(k),
+    }
+}
+
+// Answers a scenario of any fields, in doubles that equal the whole units.
+pub fn answer_fields_in_doubles(s: Scenario) -> DoublesAnswer
+    ensures { λ r. ⌜ r ≡ inDoubles (answerOf s) ⌝ }
+    ensures { λ r. ⌜ DoublesPromise (refusalOf s) s (answerOf s) r ⌝ }
+{
+    in_doubles(answer_fields(s))
+}
+
+// Answers the record at the front of any bytes, in doubles that equal the whole units.
+pub fn answer_record_in_doubles(bytes: &[u8]) -> DoublesAnswer
+    ensures { λ r. ⌜ r ≡ inDoubles (recordAnswerOf (now (bytes .entry))) ⌝ }
+    ensures { λ r. ⌜ DoublesPromise (readRefusal (now (bytes .entry))) (scenarioIn (now (bytes .entry))) (recordAnswerOf (now (bytes .entry))) r ⌝ }
+{
+    in_doubles(answer_record(bytes))
+}
