@@ -1,13 +1,13 @@
 -- What ties a signed number of the code to ℕ: a difference of two natural numbers, cast and stored.
-use mathlib.Core.Path.{_≡_}
+use mathlib.Core.Path.{_≡_, refl, ap, _∙_}
 use mathlib.Core.Bool.{Bool, true, false, not}
 use Prim.Native.Nat.{ℕ, zero, suc, _+_, _-_, _^_, _<_, _≤_}
-use native.Mathlib.Nat.{lt-irrefl}
+use native.Mathlib.Nat.{lt-irrefl, zero-add}
 use native.Mathlib.Omega.{arith}
-use borrow.Author.Tests.{lt-ltb, le-ltb}
+use borrow.Author.Tests.{lt-ltb, le-ltb, ltb-true}
 use lib.Dec.{T, ltb, ltb→lt, nltb→le}
-use lib.IntN.{ℤ, pos, negsuc, _-ℤ_, subℕ}
-use lib.Signed.{mag}
+use lib.IntN.{ℤ, pos, negsuc, negℤ, negℤ-negℤ, _+ℤ_, _-ℤ_, subℕ}
+use lib.Signed.{mag, ltZ, nonNeg}
 use mir.Syntax.{w64}
 use mir.Val.{toZ, ofZ}
 use mir.ValLaws.{toZ-pos, toZ-ofZ}
@@ -52,3 +52,32 @@ between-small {a} {b} {c} {d} n ha hb hc hd =
 -- a difference whose size is below 2 ^ 63, stored and read back
 pub stored : {z : ℤ} (a b : ℕ) → a < b + 2 ^ 63 → b < a + 2 ^ 63 → z ≡ subℕ a b → toZ w64 (ofZ w64 z) ≡ subℕ a b
 stored a b ha hb e = rw e (back (subℕ a b) (difference-small a b (2 ^ 63) ha hb))
+
+-- ---- the size of a number below zero
+
+-- −(n + 1) + 1
+up-to : (n : ℕ) → negsuc n +ℤ pos 1 ≡ negℤ (pos n)
+up-to zero = refl
+up-to (suc n) =
+    let e : suc (suc n) - suc 1 ≡ n = omega arith in
+    less 1 (suc (suc n)) (omega arith) ∙ ap negsuc e
+
+neg-small : (n : ℕ) → n < 2 ^ 63 → mag (negℤ (pos n)) < 2 ^ 63
+neg-small zero h = h
+neg-small (suc n) h = omega arith
+
+-- what each step of −(z + 1) gives, for z = −(n + 1)
+pub plus-one : (n : ℕ) → n < 2 ^ 63 → mag (negsuc n +ℤ pos 1) < 2 ^ 63
+plus-one n h = rw (up-to n) (neg-small n h)
+
+pub negated : (n : ℕ) → n < 2 ^ 63 → pos 0 -ℤ toZ w64 (ofZ w64 (negsuc n +ℤ pos 1)) ≡ pos n
+negated n h = rw (up-to n, back (negℤ (pos n)) (neg-small n h), negℤ-negℤ (pos n)) (ap pos (zero-add n))
+
+-- a number that a test found to be below zero, or not
+pub below-zero : (z : ℤ) → ltZ z (pos 0) ≡ true → (n : ℕ) × (z ≡ negsuc n)
+below-zero (pos n) e = absurd (omega (arith, ltb-true n 0 e))
+below-zero (negsuc n) e = (n, refl)
+
+pub not-below : (z : ℤ) → ltZ z (pos 0) ≡ false → T (nonNeg z)
+not-below (pos n) e = tt
+not-below (negsuc n) e = let y : _≡_ {A = ℕ} 0 1 = cc in absurd (omega arith)

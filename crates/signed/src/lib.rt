@@ -1,7 +1,7 @@
-// The one signed step of an answer: the difference of two unsigned numbers, and a pair of them.
+// The signed steps of an answer: the difference of two unsigned numbers, a pair of them, and the size of one.
 ghost use mathlib.Core.Path.{_≡_};
 ghost use Prim.Native.Nat.{_+_, _^_, _<_};
-ghost use lib.IntN.{subℕ};
+ghost use lib.IntN.{natAbs, subℕ};
 ghost use Rattle.signed.specs.Evaluation.{betweenOf};
 
 // A low end and a high end.
@@ -30,4 +30,14 @@ pub fn between(a: u64, b: u64, c: u64, d: u64) -> Ends
         low: difference(a, b),
         high: difference(c, d),
     }
+}
+
+// The size of z.
+pub fn size(z: i64) -> u64
+    ensures { λ r. ⌜ r ≡ natAbs z ⌝ }
+{
+    if z < 0 {
+        return (-(z + 1)) as u64 + 1;
+    }
+    z as u64
 }

@@ -1,0 +1,74 @@
+-- The line of an answer in the parts that the code puts, and what is left of the lent bytes.
+use mathlib.Core.Path.{_≡_, refl, sym, ap, _∙_}
+use mathlib.Core.Bool.{Bool, true, false, cond}
+use mathlib.Core.List.{List, [], _∷_, _++_, append-assoc, append-nil}
+use Prim.Native.Nat.{ℕ, _+_, _≤_, _<_}
+use native.Mathlib.Omega.{arith}
+use borrow.Author.Tests.{lt-ltb, le-ltb}
+use lib.IntN.{ℤ, pos, natAbs}
+use lib.ListN.{length, drop}
+use lib.Signed.{ltZ}
+use Rattle.record.specs.Steps.{Put}
+use Rattle.record.proofs.Stores.{sets-front}
+use Rattle.engine.specs.declared.Enclosure.{Enclosure}
+use Rattle.engine.specs.declared.Answer.the-variants as A
+use Rattle.report.specs.declared.Word.{Word}
+use Rattle.report.specs.declared.Words.{Words}
+use Rattle.report.specs.Text.{decimal, signedDecimal, spaced}
+use Rattle.report.specs.Lines.{lineOf, lengthOn, lentAfter}
+use Rattle.report.specs.Steps.{wordOf, wordsFor, wordBytes, headBytes, bothBytes}
+
+-- ---- the parts of a line
+
+word-is : (z : ℤ) (l : List ℕ) → 32 ∷ (signedDecimal z ++ l) ≡ wordBytes (wordOf z) ++ l
+unfolding signedDecimal
+word-is z l = go (ltZ z (pos 0))
+  where
+    go : (minus : Bool) → 32 ∷ ((cond minus (45 ∷ []) [] ++ decimal (natAbs z)) ++ l)
+        ≡ (cond minus (32 ∷ 45 ∷ []) (32 ∷ []) ++ decimal (natAbs z)) ++ l
+    go true = refl
+    go false = refl
+
+together : (p : List ℕ) (letter : ℕ) (a b c d : List ℕ) → p ++ (32 ∷ letter ∷ (a ++ (b ++ (c ++ (d ++ [])))))
+    ≡ ((p ++ (32 ∷ letter ∷ [])) ++ (a ++ b)) ++ (c ++ d)
+together p letter a b c d = simp (append-assoc, append-nil)
+
+pub enclosed-parts : (position : ℕ) (e : Enclosure) →
+    lineOf position (A.Enclosed e)
+    ≡ (headBytes position 69 ++ bothBytes (wordsFor (e .median))) ++ bothBytes (wordsFor (e .sigma))
+unfolding lineOf spaced
+enclosed-parts position e =
+    let d = wordBytes (wordOf (e .sigma .high)) in
+    let c = wordBytes (wordOf (e .sigma .low)) in
+    let b = wordBytes (wordOf (e .median .high)) in
+    let a = wordBytes (wordOf (e .median .low)) in
+    let words = word-is (e .median .low) _
+    ∙ ap (λ (l : List ℕ). a ++ l) (word-is (e .median .high) _
+    ∙ ap (λ (l : List ℕ). b ++ l) (word-is (e .sigma .low) _
+    ∙ ap (λ (l : List ℕ). c ++ l) (word-is (e .sigma .high) []))) in
+    ap (λ (l : List ℕ). decimal position ++ (32 ∷ 69 ∷ l)) words ∙ together (decimal position) 69 a b c d
+
+pub refused-parts : (position k : ℕ) →
+    lineOf position (A.Refused k) ≡ headBytes position 82 ++ wordBytes (record { minus = false; size = k })
+unfolding lineOf spaced
+refused-parts position k = rw (append-nil (decimal k)) (sym (append-assoc (decimal position) (32 ∷ 82 ∷ []) (32 ∷ decimal k)))
+
+-- ---- on lent bytes: what is said of a line that is known by its parts, of n bytes
+
+module _ (line parts lent : List ℕ) (is : line ≡ parts) {n : ℕ} (size : n ≡ length parts) where
+  pub too-short : length lent < n → (0 ≡ lengthOn line lent) × (lent ≡ lentAfter line lent)
+  unfolding lengthOn lentAfter
+  too-short h =
+      let short = lt-ltb (length lent) (length parts) (omega (arith, h, size)) in
+      (rw (is, short) refl, rw (is, short) refl)
+
+  pub has-room : n ≤ length lent → 0 + length parts ≤ length lent
+  has-room h = omega (arith, h, size)
+
+  pub written : {next : ℕ} {after : List ℕ} → n ≤ length lent → Put 0 parts lent next after →
+      (n ≡ lengthOn line lent) × (after ≡ lentAfter line lent)
+  unfolding lengthOn lentAfter
+  written h p =
+      let room : length parts ≤ length lent = omega (arith, h, size) in
+      let long = le-ltb (length lent) (length parts) room in
+      (rw (is, long) size, rw (is, long, p .bytes) (sets-front lent parts room))

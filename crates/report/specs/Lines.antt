@@ -1,0 +1,28 @@
+-- The line of an answer. Document 01, 'Records and doubles', on the program: "one line for each record (position from 1, E
+-- and four ends in the order of the answer, or R and the number, single spaces)".
+use mathlib.Core.Bool.{cond}
+use mathlib.Core.List.{List, [], _∷_, _++_, map}
+use Prim.Native.Nat.{ℕ}
+use lib.Dec.{ltb}
+use lib.ListN.{length, drop}
+use Rattle.engine.specs.declared.Answer.{Answer}
+use Rattle.engine.specs.declared.Answer.the-variants as A
+use Rattle.engine.specs.Promise.{answerValues}
+use Rattle.report.specs.Text.{decimal, signedDecimal, spaced}
+
+-- "E and four ends in the order of the answer, or R and the number"; the letters as bytes
+abbrev pub wordsOf : Answer → List (List ℕ)
+wordsOf (A.Enclosed e) = (69 ∷ []) ∷ map signedDecimal (answerValues (A.Enclosed e))
+wordsOf (A.Refused k) = (82 ∷ []) ∷ (decimal k ∷ [])
+
+-- the line, without its line end
+unfoldable pub lineOf : ℕ → Answer → List ℕ
+lineOf position a = decimal position ++ spaced (wordsOf a)
+
+-- ---- on lent bytes: the line at their front, later bytes unchanged; where it does not fit, nothing is written
+
+unfoldable pub lengthOn : List ℕ → List ℕ → ℕ
+lengthOn line lent = cond (ltb (length lent) (length line)) 0 (length line)
+
+unfoldable pub lentAfter : List ℕ → List ℕ → List ℕ
+lentAfter line lent = cond (ltb (length lent) (length line)) lent (line ++ drop (length line) lent)

@@ -1,0 +1,30 @@
+-- Numbers as text, in ASCII: the digit d is the byte 48 + d, the minus sign 45, the space 32.
+use mathlib.Core.Bool.{cond}
+use mathlib.Core.List.{List, [], _∷_, _++_}
+use Prim.Native.Nat.{ℕ, zero, suc, _+_, _*_, _-_, _/_, _%_}
+use lib.Dec.{ltb}
+use lib.IntN.{ℤ, pos, natAbs}
+use lib.Signed.{ltZ}
+
+-- the decimal digits of n, at most k of them: those of n / 10, if there is more than one, then the last
+unfoldable pub digitsBy : ℕ → ℕ → List ℕ
+digitsBy zero n = []
+digitsBy (suc k) n = cond (ltb n 10) [] (digitsBy k (n / 10)) ++ ((48 + n % 10) ∷ [])
+
+-- "decimal"; 20 digits hold every number of 64 bits
+unfoldable pub decimal : ℕ → List ℕ
+decimal n = digitsBy 20 n
+
+-- the number that digits make, after the value v of those before them
+unfoldable pub readDecimal : ℕ → List ℕ → ℕ
+readDecimal v [] = v
+readDecimal v (d ∷ ds) = readDecimal (10 * v + (d - 48)) ds
+
+-- "Ends are decimal, with a minus sign in front where negative"
+unfoldable pub signedDecimal : ℤ → List ℕ
+signedDecimal z = cond (ltZ z (pos 0)) (45 ∷ []) [] ++ decimal (natAbs z)
+
+-- words, each with a single space before it
+unfoldable pub spaced : List (List ℕ) → List ℕ
+spaced [] = []
+spaced (w ∷ ws) = 32 ∷ (w ++ spaced ws)
