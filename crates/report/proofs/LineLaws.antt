@@ -1,22 +1,25 @@
 -- The line of an answer in the parts that the code puts, and what is left of the lent bytes.
 use mathlib.Core.Path.{_≡_, refl, sym, ap, _∙_}
-use mathlib.Core.Bool.{Bool, true, false, cond}
+use mathlib.Core.Bool.{Bool, true, false, not, cond}
 use mathlib.Core.List.{List, [], _∷_, _++_, append-assoc, append-nil}
 use Prim.Native.Nat.{ℕ, _+_, _≤_, _<_}
 use native.Mathlib.Omega.{arith}
 use borrow.Author.Tests.{lt-ltb, le-ltb}
+use lib.Dec.{T, ltb, nltb→le}
 use lib.IntN.{ℤ, pos, natAbs}
-use lib.ListN.{length, drop}
+use lib.ListN.{length, length-append}
 use lib.Signed.{ltZ}
 use Rattle.record.specs.Steps.{Put}
 use Rattle.record.proofs.Stores.{sets-front}
 use Rattle.engine.specs.declared.Enclosure.{Enclosure}
+use Rattle.engine.specs.declared.Answer.{Answer}
 use Rattle.engine.specs.declared.Answer.the-variants as A
 use Rattle.report.specs.declared.Word.{Word}
 use Rattle.report.specs.declared.Words.{Words}
 use Rattle.report.specs.Text.{decimal, signedDecimal, spaced}
 use Rattle.report.specs.Lines.{lineOf, lengthOn, lentAfter}
-use Rattle.report.specs.Steps.{wordOf, wordsFor, wordBytes, headBytes, bothBytes}
+use Rattle.report.specs.Steps.{wordOf, wordsFor, signBytes, wordBytes, bothBytes, headBytes}
+use Rattle.report.proofs.TextLaws.{decimal-most}
 
 -- ---- the parts of a line
 
@@ -72,3 +75,50 @@ module _ (line parts lent : List ℕ) (is : line ≡ parts) {n : ℕ} (size : n 
       let room : length parts ≤ length lent = omega (arith, h, size) in
       let long = le-ltb (length lent) (length parts) room in
       (rw (is, long) size, rw (is, long, p .bytes) (sets-front lent parts room))
+
+-- ---- sizes
+
+pub length-most : (line lent : List ℕ) {n : ℕ} → n ≡ lengthOn line lent → n ≤ length lent
+unfolding lengthOn
+length-most line lent {n} e = go (ltb (length lent) (length line)) (nltb→le (length lent) (length line)) e
+  where
+    go : (b : Bool) → (T (not b) → length line ≤ length lent) → n ≡ cond b 0 (length line) → n ≤ length lent
+    go true h e = omega arith
+    go false h e = omega (arith, h tt)
+
+word-most : (w : Word) → length (wordBytes w) ≤ 22
+word-most w = go (w .minus)
+  where
+    go : (minus : Bool) → length (signBytes minus ++ decimal (w .size)) ≤ 22
+    go true = omega (arith, decimal-most (w .size))
+    go false = omega (arith, decimal-most (w .size))
+
+-- no line is longer than this
+pub line-most : (position : ℕ) (a : Answer) → length (lineOf position a) ≤ 110
+line-most position (A.Enclosed e) =
+    let m = wordsFor (e .median) in
+    let s = wordsFor (e .sigma) in
+    let head = headBytes position 69 in
+    rw (enclosed-parts position e)
+    (omega (
+      arith,
+      length-append (head ++ bothBytes m) (bothBytes s),
+      length-append head (bothBytes m),
+      length-append (decimal position) (32 ∷ 69 ∷ []),
+      length-append (wordBytes (m .low)) (wordBytes (m .high)),
+      length-append (wordBytes (s .low)) (wordBytes (s .high)),
+      decimal-most position,
+      word-most (m .low),
+      word-most (m .high),
+      word-most (s .low),
+      word-most (s .high),
+    ))
+line-most position (A.Refused k) =
+    rw (refused-parts position k)
+    (omega (
+      arith,
+      length-append (headBytes position 82) (32 ∷ decimal k),
+      length-append (decimal position) (32 ∷ 82 ∷ []),
+      decimal-most position,
+      decimal-most k,
+    ))
