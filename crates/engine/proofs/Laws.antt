@@ -29,7 +29,7 @@ use Rattle.engine.specs.declared.Enclosure.{Enclosure}
 use Rattle.engine.specs.declared.Answer.{Answer}
 use Rattle.engine.specs.declared.DoublesAnswer.{DoublesAnswer}
 use Rattle.engine.specs.declared.Answer.the-variants as A
-use Rattle.engine.specs.Models.{median, sigma, medianWidth, sigmaWidth}
+use Rattle.engine.specs.Models.{median, sigma, idrissWidth, booreAtkinsonWidth, medianWidth, sigmaWidth}
 use Rattle.engine.specs.Promise.{EnclosedWithin, AnswerPromise, DoublesPromise}
 use Rattle.engine.specs.Evaluation.{enclosureOf, answerBy, SmallEnclosure, SmallAnswer, doublesOf, inDoubles}
 use Rattle.engine.proofs.Exact.{equals}
@@ -69,8 +69,8 @@ module _ (s : Scenario) (w : Within idriss s) where
       let m = idriss-median in
       let g = idriss-sigma-promise (s .period) (s .magnitude) (sigma-domain s w) in
       rw model (record {
-        median-enclosed = within idrissPromise.medianWidth 100 (omega arith) (m .encloses) (m .narrow);
-        sigma-enclosed = within idrissPromise.sigmaWidth 10 (omega arith) (g .encloses) (g .narrow);
+        median-enclosed = within idrissPromise.medianWidth idrissWidth (omega arith) (m .encloses) (m .narrow);
+        sigma-enclosed = within idrissPromise.sigmaWidth sigmaWidth (omega arith) (g .encloses) (g .narrow);
         small = record { median = m .small; sigma = g .small };
       })
 
@@ -96,7 +96,7 @@ module _ (s : Scenario) (w : Within booreAtkinson s) where
       let m = boore-atkinson-median in
       let g = boore-atkinson-sigma in
       rw model (record {
-        median-enclosed = within booreAtkinsonPromise.medianWidth 2_000 (omega arith) (m .encloses) (m .narrow);
+        median-enclosed = within booreAtkinsonPromise.medianWidth booreAtkinsonWidth (omega arith) (m .encloses) (m .narrow);
         sigma-enclosed = record { encloses = g .encloses; narrow = rw (g .equal) (at-most-above _ sigmaWidth) };
         small = record { median = m .small; sigma = g .small };
       })

@@ -30,8 +30,14 @@ sigma s =
     (booreAtkinsonSigma (booreAtkinsonTotalFor (s .period)) (s .mechanism))
 
 -- "at most 100 units of 10^-9 apart for Idriss and 2,000 for Boore-Atkinson" (demand 3)
+abbrev pub idrissWidth : ℕ
+idrissWidth = 100
+
+abbrev pub booreAtkinsonWidth : ℕ
+booreAtkinsonWidth = 2_000
+
 unfoldable pub medianWidth : Scenario → ℕ
-medianWidth s = byModel s 100 2_000
+medianWidth s = byModel s idrissWidth booreAtkinsonWidth
 
 -- "at most 10 units apart" (demand 3)
 abbrev pub sigmaWidth : ℕ

@@ -8,7 +8,7 @@ use native.Mathlib.Nat.{pow-succ', le-refl}
 use borrow.Author.Tests.{lt-ltb, le-ltb}
 use lib.Dec.{T, ltb, ltb→lt, nltb→le}
 use lib.ListN.{length, length-append}
-use Rattle.report.specs.Text.{digitsBy, decimal, readDecimal}
+use Rattle.report.specs.Text.{digitsBy, places, decimal, readDecimal}
 
 -- ---- how many
 
@@ -22,9 +22,9 @@ digits-most (suc k) n = go (ltb n 10) (digits-most k (n / 10))
     go true h = omega arith
     go false h = omega (arith, length-append (digitsBy k (n / 10)) ((48 + n % 10) ∷ []))
 
-pub decimal-most : (n : ℕ) → length (decimal n) ≤ 20
+pub decimal-most : (n : ℕ) → length (decimal n) ≤ places
 unfolding decimal
-decimal-most n = digits-most 20 n
+decimal-most n = digits-most places n
 
 -- ---- one digit more
 
@@ -47,14 +47,21 @@ pub one-digit : (n : ℕ) → n < 10 → decimal n ≡ (48 + n) ∷ []
 unfolding decimal digitsBy
 one-digit n h = let e : n % 10 ≡ n = omega arith in rw (lt-ltb n 10 h, e) refl
 
+step : (k n : ℕ) → 10 ≤ n → n < 10 ^ suc (suc k) →
+    digitsBy (suc (suc k)) n ≡ digitsBy (suc (suc k)) (n / 10) ++ ((48 + n % 10) ∷ [])
+unfolding digitsBy
+step k n least most = rw (le-ltb n 10 least) (rw (room k (n / 10) (fewer k n most)) refl)
+
 pub more-digits : (n : ℕ) → 10 ≤ n → n < 2 ^ 64 → decimal n ≡ decimal (n / 10) ++ ((48 + n % 10) ∷ [])
-unfolding decimal digitsBy
-more-digits n least most = rw (le-ltb n 10 least) (rw (room 18 (n / 10) (omega arith)) refl)
+unfolding decimal
+more-digits n least most =
+    let room : 2 ^ 64 ≤ 10 ^ places = omega arith in
+    step (places - 2) n least (omega arith)
 
 -- a number has at least one digit
 pub decimal-least : (n : ℕ) → 1 ≤ length (decimal n)
 unfolding decimal digitsBy
-decimal-least n = omega (arith, length-append (cond (ltb n 10) [] (digitsBy 19 (n / 10))) ((48 + n % 10) ∷ []))
+decimal-least n = omega (arith, length-append (cond (ltb n 10) [] (digitsBy (places - 1) (n / 10))) ((48 + n % 10) ∷ []))
 
 -- ---- no digit is lost
 
@@ -77,6 +84,6 @@ digits-read (suc k) n h = go (ltb n 10) (ltb→lt n 10) (digits-read k (n / 10) 
     go false p e = read-last 0 (digitsBy (suc k) (n / 10)) (48 + n % 10) ∙ last-digit _ n e
 
 -- the digits of n, read as a number, are n
-pub decimal-reads : (n : ℕ) → n < 10 ^ 20 → readDecimal 0 (decimal n) ≡ n
+pub decimal-reads : (n : ℕ) → n < 10 ^ places → readDecimal 0 (decimal n) ≡ n
 unfolding decimal
-decimal-reads n h = digits-read 19 n h
+decimal-reads n h = digits-read (places - 1) n h

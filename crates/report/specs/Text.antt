@@ -11,9 +11,13 @@ unfoldable pub digitsBy : ℕ → ℕ → List ℕ
 digitsBy zero n = []
 digitsBy (suc k) n = cond (ltb n 10) [] (digitsBy k (n / 10)) ++ ((48 + n % 10) ∷ [])
 
--- "decimal"; 20 digits hold every number of 64 bits
+-- 20 digits hold every number of 64 bits
+abbrev pub places : ℕ
+places = 20
+
+-- "decimal"
 unfoldable pub decimal : ℕ → List ℕ
-decimal n = digitsBy 20 n
+decimal n = digitsBy places n
 
 -- the number that digits make, after the value v of those before them
 unfoldable pub readDecimal : ℕ → List ℕ → ℕ

@@ -49,7 +49,7 @@ short c =
     size (a .position) (m .split-ends .result) (s .split-ends2 .result) (d .decimal-length .ensures .0)
     (w .before .words-length .ensures .0) (w .words-length2 .ensures .0) in
     too-short (lineOf (a .position) (A.Enclosed (a .e))) _ (a .out .now)
-    (split-parts (a .position) (a .e) (m .split-ends .ensures) (s .split-ends2 .ensures)) n (c .if1 .taken)
+    (split-parts (a .position) (a .e) (m .split-ends .ensures) (s .split-ends2 .ensures)) n (omega (arith, c .if1 .taken))
 
 -- where it is not too short, there is room for all parts
 room : (c : tie.Else1) →
@@ -67,7 +67,7 @@ room c =
     size (a .position) (m .split-ends .result) (s .split-ends2 .result) (d .decimal-length .ensures .0)
     (w .before .words-length .ensures .0) (w .words-length2 .ensures .0) in
     has-room (lineOf (a .position) (A.Enclosed (a .e))) _ (a .out .now)
-    (split-parts (a .position) (a .e) (m .split-ends .ensures) (s .split-ends2 .ensures)) n (c .if1 .left)
+    (split-parts (a .position) (a .e) (m .split-ends .ensures) (s .split-ends2 .ensures)) n (omega (arith, c .if1 .left))
 
 -- and so for the first two
 front : (c : tie.Else1) →
@@ -121,7 +121,7 @@ returns c =
     size (a .position) (m .split-ends .result) (s .split-ends2 .result) (d .decimal-length .ensures .0)
     (w .before .words-length .ensures .0) (w .words-length2 .ensures .0) in
     written (lineOf (a .position) (A.Enclosed (a .e))) _ (a .out .now)
-    (split-parts (a .position) (a .e) (m .split-ends .ensures) (s .split-ends2 .ensures)) n (e .if1 .left)
+    (split-parts (a .position) (a .e) (m .split-ends .ensures) (s .split-ends2 .ensures)) n (omega (arith, e .if1 .left))
     (put-then (put-then (p .put-head .ensures) (q .put-words .ensures)) (r .put-words2 .ensures))
 
 pub enclosed-line-spec : {M : Type 1} → statement M

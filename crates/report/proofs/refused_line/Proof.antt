@@ -36,7 +36,7 @@ short c =
     let a = w .before .before .before .args in
     let n = size (a .position) (a .k) (w .before .decimal-length .ensures .0) (w .word-length .ensures .0) in
     too-short (lineOf (a .position) (A.Refused (a .k))) _ (a .out .now) (refused-parts (a .position) (a .k)) n
-    (c .if1 .taken)
+    (omega (arith, c .if1 .taken))
 
 -- where it is not too short, there is room for both parts
 room : (c : tie.Else1) →
@@ -47,7 +47,7 @@ room c =
     let a = w .before .before .before .args in
     let n = size (a .position) (a .k) (w .before .decimal-length .ensures .0) (w .word-length .ensures .0) in
     has-room (lineOf (a .position) (A.Refused (a .k))) _ (a .out .now) (refused-parts (a .position) (a .k)) n
-    (c .if1 .left)
+    (omega (arith, c .if1 .left))
 
 head-fits : tie.Need-put-head-requires
 head-fits c κs =
@@ -71,7 +71,7 @@ returns c =
     let a = w .before .before .before .args in
     let n = size (a .position) (a .k) (w .before .decimal-length .ensures .0) (w .word-length .ensures .0) in
     written (lineOf (a .position) (A.Refused (a .k))) _ (a .out .now) (refused-parts (a .position) (a .k)) n
-    (e .if1 .left) (put-then (p .put-head .ensures) (q .put-word .ensures))
+    (omega (arith, e .if1 .left)) (put-then (p .put-head .ensures) (q .put-word .ensures))
 
 pub refused-line-spec : {M : Type 1} → statement M
 refused-line-spec =
