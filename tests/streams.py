@@ -1,0 +1,492 @@
+"""Streams of records for the program that reads records and prints enclosures.
+
+Written from document 01, 'The scenario', 'Records and doubles' and 'What is turned away', by way of records.py.  A
+stream is a run of accepted records, at times ended by a damaged or refused one or by a cut.  A refused record ends
+its stream, so each costs a process.  The refusal 10 cannot occur: its condition is that no bit stands, and 9 (bit 0,
+1 or 2 is clear) is checked before it.  Nor can 12, which belongs to writing.
+"""
+
+from itertools import combinations
+from typing import NamedTuple, Optional, Tuple
+
+import models
+from records import (ABSENT, BOORE_ATKINSON, DISTANCE, FIELDS, IDRISS, MAGNITUDE, MECHANISM, PERIODS, VELOCITY,
+                     Scenario, read, record)
+from test_models import closest, draw_fields, hinges
+
+# "It takes the first 4,096 bytes and ignores the rest."
+TAKEN = 4096
+LIMITS = {IDRISS: models.IDRISS, BOORE_ATKINSON: models.BOORE_ATKINSON}
+WIDE_FIELDS = ('magnitude', 'distance', 'velocity')
+FIELD_END = 65535
+
+# Map bytes in which bits 0 to 2 stand, 6 and 7 are clear.
+GOOD_MAPS = (0x07, 0x0f, 0x17, 0x1f, 0x27, 0x2f, 0x37, 0x3f)
+# Accepted scenarios, every field of which has to be written.
+WHOLE = {IDRISS: Scenario(1, 700, 1000, 7500, 2, 75), BOORE_ATKINSON: Scenario(2, 650, 258, 3600, 1, 200)}
+# For each model, numbers that are turned away by the refusals 1 to 6, in the order of the fields.
+WRONG = {IDRISS: Scenario(0, 449, 17501, 20001, 5, 70), BOORE_ATKINSON: Scenario(3, 801, 20000, 1799, 4, 40)}
+
+
+class Stream(NamedTuple):
+    """The bytes of a stream, what they are about, and how they are given and checked."""
+
+    kind: str
+    data: bytes
+    # The lines that are due, as typed in by hand; * stands for an end.
+    lines: Optional[Tuple[str, ...]] = None
+    # The finenesses at which the formula's pairs are checked, exactly and rounded outward.
+    exact: Tuple[int, ...] = ()
+    outward: Tuple[int, ...] = ()
+    # The sizes of the pieces in which the bytes are given, with a pause after each.
+    pieces: Tuple[int, ...] = ()
+
+
+def raw(map_byte, scenario):
+    """Return a map byte and the fields that it calls for, whatever their numbers are."""
+    fields = (getattr(scenario, name).to_bytes(size, 'little')
+              for bit, (name, size) in enumerate(FIELDS) if map_byte >> bit & 1)
+    return bytes([map_byte]) + b''.join(fields)
+
+
+def packed(kind, records, **others):
+    """Yield the records in streams of at most 4,096 bytes; a refused one ends its stream."""
+    data = b''
+    for one in records:
+        if len(data) + len(one) > TAKEN:
+            yield Stream(kind, data, **others)
+            data = b''
+        data += one
+        if read(one)[0] == 'R':
+            yield Stream(kind, data, **others)
+            data = b''
+    if data:
+        yield Stream(kind, data, **others)
+
+
+def written(kind, scenarios, **others):
+    """Yield the records of some scenarios in streams."""
+    return packed(kind, map(record, scenarios), **others)
+
+
+def sized(length, turn=0):
+    """Return an accepted record of so many bytes, 6 to 11; neighbouring turns differ."""
+    optional = {6: (), 7: ('mechanism',), 8: ('velocity',), 9: ('mechanism', 'period'), 10: ('velocity', 'period'),
+                11: ('velocity', 'mechanism', 'period')}[length]
+    given = {'velocity': 1800 + 37 * turn % 5000, 'mechanism': turn % 4, 'period': PERIODS[2][turn % 21]}
+    fields = {**ABSENT, **{name: given[name] for name in optional}}
+    return record(Scenario(BOORE_ATKINSON, 500 + 7 * turn % 301, 131 * turn % 20000, **fields))
+
+
+def filled(size):
+    """Return accepted records of all lengths that take up just so many bytes, from 12 on."""
+    data, turn = b'', 0
+    while size - len(data) > 22:
+        data += sized(6 + turn % 6, turn)
+        turn += 1
+    left = size - len(data)
+    return data + sized(left // 2, turn) + sized(left - left // 2, turn + 1)
+
+
+# ---------------------------------------------------------------------------
+# Accepted scenarios
+# ---------------------------------------------------------------------------
+
+def within(rng, model, **given):
+    """Draw a scenario within the model's limits, some fields given; each absent number stands at times."""
+    magnitude, distance, velocity, mechanism = draw_fields(rng, LIMITS[model])
+    if rng.randrange(6) == 0:
+        velocity = ABSENT['velocity']
+    period = rng.choice((0, 0, *PERIODS[model]))
+    return Scenario(model, magnitude, distance, velocity, mechanism, period)._replace(**given)
+
+
+CROSSED = {
+    'magnitude': [450, 451, 499, 500, 501, 675, 676, 749, 750, 751, 790, 800, *hinges()],
+    'distance': [0, 1, 2, 17500, 19999],
+    'velocity': [1800, 1801, 2999, 3000, 3001, 4500, 7599, 7600, 7601, 11999, 12000, 12001, 13000, 20000],
+}
+
+
+def accepts(model, field, number):
+    """Say whether a model accepts a number of magnitude, distance or velocity."""
+    return models.within(number, getattr(LIMITS[model], field))
+
+
+def crossed(rng):
+    """Yield scenarios in which every period of each model meets each value, and each code."""
+    for model in (IDRISS, BOORE_ATKINSON):
+        for period in (0, *PERIODS[model]):
+            for field, values in CROSSED.items():
+                for value in values:
+                    if accepts(model, field, value):
+                        yield within(rng, model, period=period, **{field: value})
+            for code in MECHANISM[model]:
+                yield within(rng, model, period=period, mechanism=code)
+
+
+def joined(rng):
+    """Yield scenarios of every period at both sides of a table or hinge and of a velocity, near and at distance 0."""
+    for model, magnitudes in ((IDRISS, (675, 676)), (BOORE_ATKINSON, (674, 675, 676))):
+        for period in (0, *PERIODS[model]):
+            for magnitude in magnitudes:
+                for velocity in CROSSED['velocity']:
+                    if accepts(model, 'velocity', velocity):
+                        yield within(rng, model, period=period, magnitude=magnitude, velocity=velocity,
+                                     distance=rng.choice((0, 0, 1, 100, 1000)))
+
+
+def beyond_hinges():
+    """Yield scenarios at the hinge magnitudes above Boore-Atkinson's limit, which are turned away."""
+    for magnitude in hinges():
+        if not accepts(BOORE_ATKINSON, 'magnitude', magnitude):
+            for period in (5000, 7500, 10000):
+                yield WHOLE[BOORE_ATKINSON]._replace(magnitude=magnitude, period=period)
+
+
+def sigmas():
+    """Yield scenarios of Idriss with every period and the magnitudes around those that sigma is held to."""
+    for period in (0, *PERIODS[IDRISS]):
+        for magnitude in (450, 499, 500, 501, 625, 749, 750, 751, 790):
+            yield Scenario(IDRISS, magnitude, 5000, 6000, 4, period)
+
+
+def thresholds(rng):
+    """Yield scenarios whose p is next to ln 0.03 or ln 0.09."""
+    for period in (0, *PERIODS[BOORE_ATKINSON]):
+        for velocity in (1800, 1801, 2400, 3000, 3001, 5000, 7599, 7600, 13000):
+            # Its p is 11 units from ln 0.09.
+            yield Scenario(BOORE_ATKINSON, 754, 6065, velocity, 0, period)
+    for number in (0.03, 0.09):
+        for magnitude, distance, mechanism in closest(number, 60):
+            for _ in range(3):
+                yield within(rng, BOORE_ATKINSON, magnitude=magnitude, distance=distance, mechanism=mechanism,
+                             velocity=rng.randint(1800, 7599))
+
+
+# Scenarios whose median is within 4 units of 0, so that its ends change sign or are 0.
+NEXT_TO_ZERO = (
+    (1, 649, 39, 5125, 2, 30), (1, 553, 17, 5254, 2, 100), (1, 686, 413, 5666, 0, 100), (1, 687, 160, 9485, 2, 150),
+    (1, 677, 836, 4700, 2, 150), (1, 650, 57, 8244, 0, 200), (1, 670, 5, 7753, 0, 300), (1, 734, 467, 5772, 2, 300),
+    (2, 750, 9, 8234, 2, 100), (2, 774, 206, 10475, 3, 150), (2, 759, 190, 10336, 0, 150), (2, 644, 59, 9396, 2, 200),
+    (2, 670, 212, 8906, 2, 200), (2, 729, 114, 10070, 3, 300), (2, 762, 5, 10770, 0, 300))
+
+
+def byte_order():
+    """Yield scenarios that are accepted either way round in some field, low byte first or last."""
+    for model in (IDRISS, BOORE_ATKINSON):
+        for magnitude in (513, 515, 770):
+            for distance in (1, 256, 258, 513, 13330):
+                yield Scenario(model, magnitude, distance, 4864, 3, 300)
+
+
+def short_idriss(rng):
+    """Yield scenarios of Idriss whose exact sums are short, every row at distances up to 1 km."""
+    for turn, period in enumerate(PERIODS[IDRISS]):
+        yield within(rng, IDRISS, period=period, magnitude=rng.choice((600, 675, 676, 750)),
+                     distance=(0, 37, 100)[turn % 3], velocity=(4500, 7600, 4501)[turn % 3])
+
+
+def short_boore_atkinson(rng, periods):
+    """Yield scenarios of Boore-Atkinson at distances up to 1 km; the exact sums are the longer the greater h is."""
+    for turn, period in enumerate(periods):
+        yield within(rng, BOORE_ATKINSON, period=period, distance=(0, 50, 100)[turn % 3],
+                     velocity=(1800, 2950, 3050, 7550, 7650, 1850, 3000, 7600)[turn % 8])
+
+
+def long_sums(rng):
+    """Yield scenarios of every row of both models, at any distances."""
+    for model in (IDRISS, BOORE_ATKINSON):
+        for period in (0, *PERIODS[model]):
+            for _ in range(4):
+                yield within(rng, model, period=period)
+    for number in (0.03, 0.09):
+        for magnitude, distance, mechanism in closest(number, 10):
+            yield within(rng, BOORE_ATKINSON, magnitude=magnitude, distance=distance, mechanism=mechanism)
+
+
+def formula_streams(rng):
+    """Yield the streams whose answers are checked against the formula's pairs."""
+    rows = (0, *PERIODS[BOORE_ATKINSON])
+    few, all_three = (1,), (1, 2, 3)
+    kind = "the formula's pairs"
+    yield from written(kind, short_idriss(rng), exact=all_three, outward=all_three)
+    yield from written(kind, short_boore_atkinson(rng, rows[:5]), exact=all_three, outward=all_three)
+    yield from written(kind, short_boore_atkinson(rng, rows[5:10]), exact=few, outward=all_three)
+    yield from written(kind, short_boore_atkinson(rng, rows[10:]), outward=all_three)
+    yield from written(kind, long_sums(rng), outward=all_three)
+
+
+# ---------------------------------------------------------------------------
+# Limits, refusals and damage
+# ---------------------------------------------------------------------------
+
+def at_limits(rng):
+    """Yield scenarios at each limit and one step either side, at 0 and at the field's end."""
+    for model in (IDRISS, BOORE_ATKINSON):
+        for field, limits in zip(WIDE_FIELDS, (MAGNITUDE, DISTANCE, VELOCITY)):
+            first, last = limits[model]
+            for value in (first - 1, first, first + 1, last - 1, last, last + 1, 0, 32768 + first, FIELD_END):
+                if value >= 0:
+                    yield within(rng, model, **{field: value})
+        for code in (*range(12), 127, 128, 254, 255):
+            yield within(rng, model, mechanism=code)
+        near = {tabled + step for tabled in PERIODS[IDRISS] for step in (-1, 0, 1)}
+        for period in sorted(near | {0, 1, 7, 70, 256 + 75, 32768 + 10, FIELD_END}):
+            yield within(rng, model, period=period)
+    for model in (0, 1, 2, 3, 4, 9, 127, 128, 129, 254, 255):
+        yield WHOLE[IDRISS]._replace(model=model)
+
+
+def orders():
+    """Yield records in which several refusals apply: document 01's order decides."""
+    for model in (IDRISS, BOORE_ATKINSON):
+        wrong = WRONG[model]._asdict()
+        for size in (1, 2, 6):
+            for names in combinations(wrong, size):
+                scenario = WHOLE[model]._replace(**{name: wrong[name] for name in names})
+                whole = raw(0x3f, scenario)
+                yield whole
+                # 7 comes before 1 to 6, 8 and 9 before that.
+                if size != 2:
+                    yield whole[:-1]
+                    yield raw(0x7f, scenario)
+                    yield raw(0x3d, scenario)
+        for name, number in wrong.items():
+            for default in ABSENT:
+                if name != default:
+                    # 11 comes before 1 to 6.
+                    yield raw(0x3f, WHOLE[model]._replace(**{name: number, default: ABSENT[default]}))
+
+
+def defaults():
+    """Yield records with each choice of fields, and of absent numbers among those that are written."""
+    for model in (IDRISS, BOORE_ATKINSON):
+        for map_byte in GOOD_MAPS:
+            for size in range(4):
+                for names in combinations(ABSENT, size):
+                    yield raw(map_byte, WHOLE[model]._replace(**{name: ABSENT[name] for name in names}))
+
+
+def not_defaults():
+    """Yield scenarios with numbers next to an absent one, or with its two bytes, which are no absent ones."""
+    for velocity in (7599, 7601, 7344, 7856, 0x1d00, 0x1db1):
+        yield WHOLE[BOORE_ATKINSON]._replace(velocity=velocity)
+    for name in ('distance', 'velocity', 'period'):
+        for number in (0, 9, 7600):
+            yield WHOLE[BOORE_ATKINSON]._replace(**{name: number})
+
+
+def map_bytes():
+    """Yield every map byte with all the bytes that it calls for, and all but the last of them."""
+    for map_byte in range(256):
+        yield raw(map_byte, WHOLE[BOORE_ATKINSON]) + (b'\x00' if map_byte & 0x47 != 0x07 else b'')
+        if map_byte not in GOOD_MAPS and map_byte % 64 in (0, *GOOD_MAPS, 0x3e, 0x05, 0x03):
+            yield raw(map_byte, WHOLE[BOORE_ATKINSON])[:-1] or bytes([map_byte])
+
+
+def cuts():
+    """Yield streams that are cut at every byte of a record, first in the stream and after accepted ones."""
+    for model, maps in ((BOORE_ATKINSON, GOOD_MAPS), (IDRISS, (0x17, 0x3f))):
+        for map_byte in maps:
+            whole = raw(map_byte, WHOLE[model])
+            for length in range(1, len(whole) + 1):
+                yield Stream('cut at every byte', whole[:length])
+                yield Stream('cut at every byte', sized(9, length) + sized(6, length) + whole[:length])
+
+
+REFUSED = {
+    1: bytes.fromhex('3703bc02e803024b00'), 2: bytes.fromhex('37011703e803024b00'),
+    3: bytes.fromhex('3701bc025d44024b00'), 4: bytes.fromhex('0f02bc02e8030707'),
+    5: bytes.fromhex('0701bc02e803'), 6: bytes.fromhex('3701bc02e803024600'),
+    7: bytes.fromhex('3701bc02e803024b'), 8: bytes.fromhex('7701bc02e803024b00'),
+    9: bytes.fromhex('3601bc02e803024b00'), 11: bytes.fromhex('1702bc02e80309')}
+
+
+def refusals():
+    """Yield each refusal alone, after one record, after many, and before records that are not answered."""
+    for number, last in REFUSED.items():
+        after = b'' if number == 7 else filled(100)
+        kind = f'refusal {number}'
+        yield Stream(kind, last, ('enclosures', f'1 R {number}', 'end 1'))
+        yield Stream(kind, last + after, ('enclosures', f'1 R {number}', 'end 1'))
+        yield Stream(kind, sized(6) + last + after, ('enclosures', '1 E * * * *', f'2 R {number}', 'end 2'))
+        yield Stream(kind, filled(3000) + last + after)
+        yield Stream(kind, sized(11, 3) * 300 + last + last)
+
+
+# ---------------------------------------------------------------------------
+# Around 4,096 bytes
+# ---------------------------------------------------------------------------
+
+def around_the_end():
+    """Yield streams that end at, next to and beyond 4,096 bytes."""
+    for size in (TAKEN - 1, TAKEN):
+        yield Stream(f'{size} bytes', filled(size))
+    for after in (b'\x00', b'\x07', b'\xff', sized(6), sized(11, 5), REFUSED[6], filled(TAKEN), filled(96000),
+                  bytes(10 ** 6), b'\xff' * 70000):
+        yield Stream('4,096 bytes and more', filled(TAKEN) + after)
+    for before in range(1, 12):
+        for length in (6, 11):
+            # Whole for the caller, but cut at byte 4,096 where it has more bytes than are left.
+            data = filled(TAKEN - before) + sized(length, before)
+            yield Stream('a record around byte 4,096', data)
+            yield Stream('a record around byte 4,096', data + filled(500))
+    for last in (0x00, 0x07, 0x3f, 0x38, 0x40, 0x80, 0xc7, 0xff):
+        yield Stream('the last byte is a map byte', filled(TAKEN - 1) + bytes([last]))
+        yield Stream('the last byte is a map byte', filled(TAKEN - 1) + bytes([last]) + filled(50))
+    for length in range(6, 12):
+        yield Stream('records of one length', sized(length, 1) * 700)
+        yield Stream('records of one length', sized(length, 2) * (TAKEN // length))
+    for number, last in REFUSED.items():
+        yield Stream(f'refusal {number} at the end', filled(TAKEN - len(last)) + last)
+        yield Stream(f'refusal {number} and more', filled(2000) + last + filled(4000))
+
+
+def in_pieces():
+    """Yield streams that are given in pieces."""
+    few = filled(60)
+    yield Stream('a byte at a time', few, pieces=(1,) * len(few))
+    yield Stream('a byte at a time', few[:-1], pieces=(1,) * len(few))
+    for data in (filled(TAKEN), filled(TAKEN) + filled(700), filled(TAKEN - 3) + sized(9) + filled(50),
+                 filled(1000) + REFUSED[8] + filled(3500)):
+        for sizes in ((1,), (4095,), (4096,), (1000, 1000, 1000), (2047, 1, 2047, 1), (11,) * 40):
+            yield Stream('in pieces', data, pieces=sizes)
+    yield Stream('nothing, late', b'', ('enclosures', 'end 0'), pieces=(0, 0))
+
+
+# ---------------------------------------------------------------------------
+# Streams that are drawn
+# ---------------------------------------------------------------------------
+
+def uniform(rng):
+    """Draw each field evenly from all its numbers; mostly with a model that is there."""
+    model = rng.choice((IDRISS, BOORE_ATKINSON, rng.randrange(256)))
+    return Scenario(model, *(rng.randrange(256 ** size) for _, size in FIELDS[1:]))
+
+
+def one_uniform(rng):
+    """Draw a scenario within the limits with one or two fields drawn from all their numbers."""
+    scenario = within(rng, rng.choice((IDRISS, BOORE_ATKINSON)))
+    for name, size in rng.sample(FIELDS, rng.choice((1, 1, 2))):
+        scenario = scenario._replace(**{name: rng.randrange(256 ** size)})
+    return scenario
+
+
+def near_limits(rng):
+    """Draw a scenario with a field at a limit of either model or one step beside it."""
+    scenario = within(rng, rng.choice((IDRISS, BOORE_ATKINSON)))
+    field = rng.randrange(3)
+    limits = (MAGNITUDE, DISTANCE, VELOCITY)[field][rng.choice((IDRISS, BOORE_ATKINSON))]
+    return scenario._replace(**{WIDE_FIELDS[field]: max(rng.choice(limits) + rng.choice((-1, 0, 1)), 0)})
+
+
+def damaged(rng):
+    """Draw a record with a byte or a bit altered, or with bytes put in or taken out."""
+    data = bytearray(record(within(rng, rng.choice((IDRISS, BOORE_ATKINSON)))))
+    place, way = rng.randrange(len(data)), rng.randrange(4)
+    if way == 0:
+        data[place] = rng.randrange(256)
+    elif way == 1:
+        data[place] ^= 1 << rng.randrange(8)
+    elif way == 2:
+        del data[place:place + rng.randint(1, 3)]
+    else:
+        data[place:place] = rng.randbytes(rng.randint(1, 4))
+    return bytes(data)
+
+
+def ending(rng):
+    """Draw what may come after a run of accepted records."""
+    way = rng.randrange(10)
+    if way < 2:
+        return record(one_uniform(rng))
+    if way == 2:
+        return record(uniform(rng))
+    if way == 3:
+        return record(near_limits(rng))
+    if way == 4:
+        return damaged(rng)
+    if way == 5:
+        # A written field may hold its absent number, and any field may be left out.
+        return raw(rng.choice(GOOD_MAPS), near_limits(rng))
+    if way == 6:
+        return rng.randbytes(rng.randint(1, 16))
+    if way == 7:
+        whole = record(within(rng, BOORE_ATKINSON))
+        return whole[:rng.randrange(len(whole))]
+    if way == 8:
+        return bytes([rng.choice(GOOD_MAPS)]) + rng.randbytes(10)
+    return b''
+
+
+def drawn(rng, count):
+    """Yield streams until so many accepted records have been drawn for them, each with an ending."""
+    while count > 0:
+        many = min(rng.choice((0, 1, 2, 5, 10, 30, 60, 120)), count)
+        front = b''.join(record(within(rng, rng.choice((IDRISS, BOORE_ATKINSON)))) for _ in range(many))
+        yield Stream('drawn', front + ending(rng) + rng.choice((b'', b'', rng.randbytes(9), sized(6))))
+        count -= max(many, 1)
+
+
+# ---------------------------------------------------------------------------
+# All streams
+# ---------------------------------------------------------------------------
+
+def fixed(rng):
+    """Yield the streams that every run has."""
+    yield from refusals()
+    yield from around_the_end()
+    yield from in_pieces()
+    yield from cuts()
+    yield from packed('map bytes', map_bytes())
+    yield from packed('order of the refusals', orders())
+    yield from packed('absent numbers', defaults())
+    yield from written('next to the absent numbers', not_defaults())
+    yield from written('limits', at_limits(rng))
+    yield from written('beyond the hinge magnitudes', beyond_hinges())
+    yield from written('every period', crossed(rng))
+    yield from written('every period at the joints', joined(rng))
+    yield from written("Idriss's sigma", sigmas())
+    yield from written('next to a threshold of p', thresholds(rng))
+    yield from written('next to zero', (Scenario(*fields) for fields in NEXT_TO_ZERO))
+    yield from written('byte order', byte_order())
+    yield from formula_streams(rng)
+
+
+# ---------------------------------------------------------------------------
+# Stored streams
+# ---------------------------------------------------------------------------
+
+def both_models():
+    """Return records of both models with every kind of row; no number in them is drawn."""
+    scenarios = []
+    for turn, period in enumerate((0, *PERIODS[IDRISS])):
+        scenarios += [Scenario(IDRISS, magnitude, 450 * turn, 4500 + 650 * turn, turn % 5, period)
+                      for magnitude in (600, 675, 676, 760)]
+    for turn, period in enumerate((0, *PERIODS[BOORE_ATKINSON])):
+        code = MECHANISM[BOORE_ATKINSON][turn % 5]
+        # Above, at and below the hinge magnitude, at distances in each branch of p, in each branch of the slope.
+        scenarios += [Scenario(BOORE_ATKINSON, magnitude, distance + turn, velocity, code, period)
+                      for magnitude, distance, velocity in (
+                          (760, 500, 1800), (675, 4500, 2500), (674, 10000, 5000), (550, 15000, 10000),
+                          (676, 0, 3000), (650, 2500, 7600), (720, 6500, 2000))]
+    scenarios += [Scenario(BOORE_ATKINSON, 754, 6065, 2500, code, 0) for code in MECHANISM[BOORE_ATKINSON]]
+    # Every branch of the slope with every branch of p, on both sides of the hinge magnitude.
+    scenarios += [Scenario(BOORE_ATKINSON, magnitude, distance, velocity, 9, 200)
+                  for magnitude in (674, 675, 676) for distance in (500, 4500, 15000)
+                  for velocity in (1800, 2400, 3000, 5000, 7600, 10000)]
+    return b''.join(map(record, scenarios))
+
+
+def stored():
+    """Return the bytes of the stored streams by name."""
+    few = b''.join(sized(length, length) for length in range(6, 12)) + record(WHOLE[IDRISS])
+    return {
+        'document_example': bytes.fromhex('37 01 BC 02 E8 03 02 46 00'),
+        'empty': b'',
+        'both_models': both_models(),
+        **{f'refusal_{number}': few + last for number, last in REFUSED.items()},
+        'longer_than_4096': filled(TAKEN) + filled(1000),
+        'cut_at_4096': filled(TAKEN - 5) + sized(11, 1) + filled(100),
+    }

@@ -1,0 +1,496 @@
+"""Check the program that reads records and prints enclosures, against document 01 and the papers.
+
+Run as: python3 tests/test_enclosures.py PROGRAM [COUNT] [SEED]
+    or: python3 tests/test_enclosures.py --store PROGRAM
+
+PROGRAM reads records from standard input and prints `enclosures`, a line for each record and `end` with their count.
+COUNT is how many records are drawn besides the fixed ones, 20,000 unless given.  Each line has to have the exact
+format, and the refusal of records.py or ends that enclose the true values of models.py and are not too far apart; at
+some scenarios the ends have to meet the formula's pairs of formula_pairs.py, too.
+
+The stored streams are NAME.stdin with NAME.stdout beside this file, in the folder streams or in the one that the
+environment variable STREAMS names.  --store writes them, from an output that passes the same checks.
+"""
+
+import math
+import os
+import random
+import re
+import subprocess
+import sys
+import time
+from collections import Counter
+from fractions import Fraction
+from functools import lru_cache
+
+import formula_pairs
+import models
+import streams
+from exact import Pair, meets, stated
+from formula_pairs import EXACT, OUTWARD
+from records import BOORE_ATKINSON, IDRISS, PERIODS, read, row
+from streams import TAKEN, Stream
+
+COUNT = 20000
+SEED = 19940117
+FAULTS_SHOWN = 20
+SECONDS = 60
+PAUSE = 0.003
+STREAMS = os.environ.get('STREAMS') or os.path.join(os.path.dirname(os.path.abspath(__file__)), 'streams')
+
+# "One unit is 10^-9 of a natural logarithm."
+UNITS = 10 ** 9
+# How many units the two ends may be apart: of the median and of sigma.
+WIDEST = {IDRISS: (100, 10), BOORE_ATKINSON: (2000, 0)}
+NAMES = {IDRISS: 'Idriss', BOORE_ATKINSON: 'Boore-Atkinson'}
+PARTS = ('median', 'sigma')
+
+# "Ends are decimal, with a minus sign in front where negative."
+END = rb'(0|-?[1-9][0-9]{0,17})'
+ANSWER = re.compile(rb'(?:[1-9][0-9]*) E ' + END + b' ' + END + b' ' + END + b' ' + END)
+
+# How many units the cut after 15 decimals can take away from a value worked out.
+CUT_OFF = Fraction(1, 10 ** 6)
+
+# True values are remembered for so many scenarios; all that is remembered is dropped after so many streams.
+REMEMBERED = 10000
+STREAMS_REMEMBERED = 2000
+
+
+# ---------------------------------------------------------------------------
+# What document 01 prints, typed in by hand; * stands for an end
+# ---------------------------------------------------------------------------
+
+E1 = ('enclosures', '1 E * * * *', 'end 1')
+
+
+def refused(number):
+    """Return the lines of a first record that is turned away."""
+    return 'enclosures', f'1 R {number}', 'end 1'
+
+
+PAPER = (
+    ('For the bytes 37 01 BC 02 E8 03 02 46 00', '3701bc02e803024600', ('enclosures', '1 R 6', 'end 1')),
+    ('empty input prints', '', ('enclosures', 'end 0')),
+    ('bytes 37 01 BC 02 E8 03 02 4B 00', '3701bc02e803024b00', ('enclosures', '1 E * * * *', 'end 1')),
+    ('both of them', '3701bc02e803024b003701bc02e803024600', ('enclosures', '1 E * * * *', '2 R 6', 'end 2')),
+    ('It stops after an R', '3701bc02e8030246003701bc02e803024b00', ('enclosures', '1 R 6', 'end 1')),
+    ('20001 gives 4', '3f01bc02e803214e024b00', refused(4)),
+    ('magnitude 449 in Idriss', '3701c101e803024b00', refused(2)),
+    ('magnitude 450 in Idriss', '3701c201e803024b00', E1),
+    ('magnitude 790 in Idriss', '37011603e803024b00', E1),
+    ('magnitude 791 in Idriss', '37011703e803024b00', refused(2)),
+    ('magnitude 499 in Boore-Atkinson', '3702f301e803024b00', refused(2)),
+    ('magnitude 500 in Boore-Atkinson', '3702f401e803024b00', E1),
+    ('magnitude 800 in Boore-Atkinson', '37022003e803024b00', E1),
+    ('magnitude 801 in Boore-Atkinson', '37022103e803024b00', refused(2)),
+    ('distance 17500 in Idriss', '3701bc025c44024b00', E1),
+    ('distance 17501 in Idriss', '3701bc025d44024b00', refused(3)),
+    ('distance 19999 in Boore-Atkinson', '3702bc021f4e024b00', E1),
+    ('distance 20000 in Boore-Atkinson', '3702bc02204e024b00', refused(3)),
+    ('period 40 in Idriss', '3701bc02e803022800', E1),
+    ('period 40 in Boore-Atkinson', '3702bc02e803022800', refused(6)),
+    ('period 70 in Idriss', '3701bc02e803024600', refused(6)),
+    ('period 70 in Boore-Atkinson', '3702bc02e803024600', refused(6)),
+    ('code 9 in Idriss, not written', '2701bc02e8034b00', refused(5)),
+    ('code 9 in Idriss, written', '3701bc02e803094b00', refused(11)),
+    ('code 9 in Boore-Atkinson', '0702bc02e803', E1),
+    ('velocity 7600 written', '0f02bc02e803b01d', refused(11)),
+    ('mechanism 9 written', '1702bc02e80309', refused(11)),
+    ('period 0 written', '2702bc02e8030000', refused(11)),
+    ('model 0', '3700bc02e803024b00', refused(1)),
+    ('model 3', '3703bc02e803024b00', refused(1)),
+    ('a lone map byte 00', '00', refused(9)),
+    ('bit 6 stands', '7701bc02e803024b00', refused(8)),
+    ('bit 7 stands', 'b701bc02e803024b00', refused(8)),
+    ('bit 6 stands, the others are clear', '40', refused(8)),
+    ('a lone map byte', '07', refused(7)),
+    ('the last byte is wanting', '3701bc02e803024b', refused(7)),
+    ('two records and a map byte', '0702bc02e8030702bc02e80307',
+     ('enclosures', '1 E * * * *', '2 E * * * *', '3 R 7', 'end 3')),
+)
+
+# "Velocity 12000 and 20000 answer alike in Idriss": two records whose answers have the same ends.
+ALIKE = ('3f01bc02e803e02e024b00', '3f01bc02e803204e024b00')
+
+# The printed equations worked out with the printed coefficients on a decimal calculator, cut off after 15 decimals:
+# median and sigma.
+WORKED_OUT = (
+    # Idriss, M 7.00, 10 km, 760 m/s, code 2, 0.075 s
+    ('3701bc02e803024b00', '-0.704754243731091', '0.669340649209396'),
+    # Idriss, M 6.75, 0 km, 1200 m/s, code 0, period 0
+    ('1f01a3020000e02e00', '-0.734924670948224', '0.670149370425610'),
+    # Idriss, M 6.76, 175 km, 450 m/s, code 4, 10 s
+    ('3f01a4025c449411041027', '-6.792782961471475', '0.812851430103383'),
+    # Boore-Atkinson, M 7.00, 10 km, 300 m/s, code 0, 0.2 s; p is above ln 0.09
+    ('3f02bc02e803b80b00c800', '-0.475458317203253', '0.596'),
+    # Boore-Atkinson, M 6.00, 70 km, 180 m/s, code 9, period 0; p is below ln 0.03
+    ('0f025802581b0807', '-2.803534464746532', '0.566'),
+    # Boore-Atkinson, M 6.50, 40 km, 250 m/s, code 2, 1 s; p is between
+    ('3f028a02a00fc40902e803', '-2.147578578335000', '0.647'),
+)
+
+
+# ---------------------------------------------------------------------------
+# What is due
+# ---------------------------------------------------------------------------
+
+def outcomes(data):
+    """Yield what is due for each record of a stream: E and its scenario, or R and the refusal."""
+    rest = data[:TAKEN]
+    while rest:
+        letter, answer, *others = read(rest)
+        yield letter, answer
+        if letter == 'R':
+            return
+        rest = others[1]
+
+
+def true_values(scenario):
+    """Return pairs around the true median and the true sigma of an accepted scenario."""
+    model, magnitude, distance, velocity, mechanism, period = scenario
+    number = row(model, period)
+    if model == IDRISS:
+        median = models.idriss_median(models.table_of(magnitude), number, magnitude, distance, velocity, mechanism)
+        return median, models.idriss_sigma(period, magnitude)
+    median = models.boore_atkinson_median(number, magnitude, distance, velocity, mechanism)
+    return median, stated(models.boore_atkinson_sigma(number, mechanism))
+
+
+@lru_cache(maxsize=REMEMBERED)
+def narrowest_ends(scenario):
+    """Return, for median and sigma, the greatest low end and the least high end that enclose the true value."""
+    # The ends are whole, so they enclose the true value if they enclose it rounded outward to whole units.
+    return tuple((math.floor(true.low * UNITS), math.ceil(true.high * UNITS)) for true in true_values(scenario))
+
+
+# ---------------------------------------------------------------------------
+# The checks of an output
+# ---------------------------------------------------------------------------
+
+def show(line):
+    """Return a line of an output as a text for a message."""
+    return repr(line[:200].decode('ascii', 'backslashreplace'))
+
+
+def read_ends(line):
+    """Return the four ends of a line with an answer, or None if it has another format."""
+    found = ANSWER.fullmatch(line)
+    return tuple(map(int, found.groups())) if found else None
+
+
+def pair_fault(part, widest, ends, narrowest):
+    """Return what is wrong with the two ends of the median or of sigma, or None."""
+    low, high = ends
+    if low > high:
+        return f'the low end of the {part} is above its high end'
+    if low > narrowest[0]:
+        return f'the low end of the {part} is too high by {low - narrowest[0]}, to enclose the true value'
+    if high < narrowest[1]:
+        return f'the high end of the {part} is too low by {narrowest[1] - high}, to enclose the true value'
+    if high - low > widest:
+        return f'the ends of the {part} are {high - low} units apart, at most {widest} are allowed'
+    return None
+
+
+def formula_fault(stream, scenario, ends):
+    """Return which of the formula's pairs does not meet the ends, or None."""
+    for way, name, finenesses in ((EXACT, 'exact', stream.exact), (OUTWARD, 'widened', stream.outward)):
+        for n in finenesses:
+            pairs = formula_pairs.formula_pairs(way, scenario, n)
+            for part, p, (low, high) in zip(PARTS, pairs, (ends[:2], ends[2:])):
+                if not meets(Pair(Fraction(low, UNITS), Fraction(high, UNITS)), p):
+                    return f"the formula's {name} pair of the {part} at n = {n} does not meet the ends"
+    return None
+
+
+class Tally:
+    """What has been seen and found so far."""
+
+    def __init__(self):
+        self.faults = []
+        self.processes = 0
+        self.records = 0
+        self.outcomes = Counter()
+        self.rows = set()
+        self.widths = Counter()
+
+    def full(self):
+        """Say whether enough faults have been found."""
+        return len(self.faults) >= FAULTS_SHOWN
+
+    def fault(self, stream, what):
+        """Note a fault of a stream."""
+        data = stream.data.hex()
+        self.faults.append(f'{stream.kind}: {what} (bytes {data[:40]}{"..." if len(data) > 40 else ""})')
+
+    def answer(self, scenario, ends):
+        """Note an answered scenario, and how far apart its ends are."""
+        self.rows.add((scenario.model, scenario.period))
+        for part, width in zip(PARTS, (ends[1] - ends[0], ends[3] - ends[2])):
+            name = f'{NAMES[scenario.model]} {part}'
+            self.widths[name] = max(self.widths[name], width)
+
+
+def answer_fault(tally, stream, scenario, line):
+    """Return what is wrong with the line of an accepted record, its position left aside, or None."""
+    ends = read_ends(line)
+    if ends is None:
+        return 'E and four ends are due'
+    tally.answer(scenario, ends)
+    both = zip(PARTS, WIDEST[scenario.model], (ends[:2], ends[2:]), narrowest_ends(scenario))
+    for part, widest, two, narrowest in both:
+        wrong = pair_fault(part, widest, two, narrowest)
+        if wrong:
+            return wrong
+    return formula_fault(stream, scenario, ends)
+
+
+def line_fault(tally, stream, position, due, line):
+    """Return what is wrong with the line of a record, or None."""
+    letter, answer = due
+    start = f'{position} {letter} '
+    if letter == 'R':
+        return None if line == f'{start}{answer}'.encode('ascii') else f'{start}{answer} is due'
+    if not line.startswith(start.encode('ascii')):
+        return f'a line that starts with {start}is due for {tuple(answer)}'
+    wrong = answer_fault(tally, stream, answer, line)
+    return f'{wrong}, for {tuple(answer)}' if wrong else None
+
+
+def typed_fault(stream, lines):
+    """Return which line is not the one that is typed in by hand, or None."""
+    if len(lines) != len(stream.lines):
+        return f'{len(stream.lines)} lines are due, not {len(lines)}'
+    for line, typed in zip(lines, stream.lines):
+        if not re.fullmatch(re.escape(typed).replace(r'\*', '-?[0-9]+').encode('ascii'), line):
+            return f'the line {typed!r} is due, not {show(line)}'
+    return None
+
+
+def check_output(tally, stream, output):
+    """Check the whole output for a stream and note its faults."""
+    *lines, after = output.split(b'\n')
+    if after:
+        return tally.fault(stream, f'the output ends with {show(after)} and no newline')
+    if stream.lines is not None:
+        wrong = typed_fault(stream, lines)
+        if wrong:
+            return tally.fault(stream, wrong)
+    due = list(outcomes(stream.data))
+    wanted = len(due) + 2
+    if len(lines) != wanted:
+        tally.fault(stream, f'{wanted} lines are due, not {len(lines)}; the last is {show((lines or [b""])[-1])}')
+    if not lines or lines[0] != b'enclosures':
+        tally.fault(stream, f'the first line is not `enclosures`: {show((lines or [b""])[0])}')
+    if len(lines) == wanted and lines[-1] != f'end {len(due)}'.encode('ascii'):
+        tally.fault(stream, f'the line `end {len(due)}` is due, not {show(lines[-1])}')
+    for position, (one, line) in enumerate(zip(due, lines[1:]), 1):
+        tally.records += 1
+        tally.outcomes[one if one[0] == 'R' else 'E'] += 1
+        wrong = line_fault(tally, stream, position, one, line)
+        if wrong:
+            # What follows a wrong line is mostly wrong for the same reason.
+            return tally.fault(stream, f'line {position + 1} is {show(line)}: {wrong}')
+    return None
+
+
+# ---------------------------------------------------------------------------
+# The program
+# ---------------------------------------------------------------------------
+
+def given_in_pieces(process, stream):
+    """Give a process its input in pieces with pauses; what is left goes at once."""
+    place = 0
+    try:
+        for size in stream.pieces:
+            process.stdin.write(stream.data[place:place + size])
+            time.sleep(PAUSE)
+            place += size
+    except BrokenPipeError:
+        # The program has taken all that it takes.
+        place = len(stream.data)
+    return stream.data[place:]
+
+
+def run_program(tally, program, stream, source=None):
+    """Run the program on a stream, from a file if one is given; return its output, or None after a fault."""
+    tally.processes += 1
+    try:
+        with subprocess.Popen([program], stdin=source or subprocess.PIPE, stdout=subprocess.PIPE, bufsize=0) as process:
+            try:
+                rest = None if source else given_in_pieces(process, stream)
+                output, _ = process.communicate(rest, timeout=SECONDS)
+            except subprocess.TimeoutExpired:
+                process.kill()
+                return tally.fault(stream, f'the program has not ended after {SECONDS} seconds')
+    except OSError as error:
+        return tally.fault(stream, f'the program could not be run: {error}')
+    if process.returncode != 0:
+        return tally.fault(stream, f'the program ended with status {process.returncode}')
+    return output
+
+
+def ask(tally, program, stream):
+    """Run the program on a stream and check its output; return the output."""
+    output = run_program(tally, program, stream)
+    if output is not None:
+        check_output(tally, stream, output)
+    return output
+
+
+def first_ends(output):
+    """Return the ends of the first record of an output, or None."""
+    lines = (output or b'').split(b'\n')
+    return read_ends(lines[1]) if len(lines) > 1 else None
+
+
+def check_typed(tally, program):
+    """Check the streams that are typed in by hand, and the answers that are worked out or have to be alike."""
+    for words, digits, lines in PAPER:
+        ask(tally, program, Stream(f'document 01, {words}', bytes.fromhex(digits), lines))
+    for digits, *values in WORKED_OUT:
+        stream = Stream('worked out', bytes.fromhex(digits), E1)
+        ends = first_ends(ask(tally, program, stream))
+        for at, value in enumerate(values):
+            units = Fraction(value) * UNITS
+            low, high = ends[2 * at:2 * at + 2] if ends else (units, units)
+            if not low - CUT_OFF <= units <= high + CUT_OFF:
+                tally.fault(stream, f'the {PARTS[at]} is {value}, which the ends {ends} do not enclose')
+    alike = [first_ends(ask(tally, program, Stream('answer alike', bytes.fromhex(digits), E1))) for digits in ALIKE]
+    if alike[0] != alike[1]:
+        tally.fault(Stream('answer alike', bytes.fromhex(ALIKE[0])), f'the ends are {alike[0]} and {alike[1]}')
+
+
+# ---------------------------------------------------------------------------
+# Stored streams
+# ---------------------------------------------------------------------------
+
+def path_of(name, end):
+    """Return the path of a stored file."""
+    return os.path.join(STREAMS, f'{name}.{end}')
+
+
+def check_stored_one(tally, program, name, data):
+    """Check one stored stream: its files, the program's output on it, and the stored output itself."""
+    stream = Stream(f'stored stream {name}', data)
+    try:
+        with open(path_of(name, 'stdin'), 'rb') as file:
+            given = file.read()
+        with open(path_of(name, 'stdout'), 'rb') as file:
+            kept = file.read()
+    except OSError as error:
+        return tally.fault(stream, f'a stored file cannot be read: {error}')
+    if given != data:
+        return tally.fault(stream, f'{name}.stdin does not hold the bytes of that stream')
+    check_output(tally, stream._replace(kind=f'{stream.kind}, its stored output'), kept)
+    with open(path_of(name, 'stdin'), 'rb') as file:
+        output = run_program(tally, program, stream, file)
+    if output is not None and output != kept:
+        pairs = zip(kept.split(b'\n'), output.split(b'\n'))
+        differing = next(((one, other) for one, other in pairs if one != other), (b'...', b'...'))
+        return tally.fault(stream, f'the output is not the stored one: {show(differing[1])}, not {show(differing[0])}')
+    return None
+
+
+def check_stored(tally, program):
+    """Check all stored streams."""
+    for name, data in streams.stored().items():
+        check_stored_one(tally, program, name, data)
+
+
+def store(program):
+    """Write the stored streams if the program's output on each of them passes the checks."""
+    tally = Tally()
+    outputs = {}
+    for name, data in streams.stored().items():
+        outputs[name] = ask(tally, program, Stream(f'stream {name} to be stored', data))
+    if tally.faults:
+        return report(tally, 'nothing is stored')
+    os.makedirs(STREAMS, exist_ok=True)
+    for name, data in streams.stored().items():
+        for end, kept in (('stdin', data), ('stdout', outputs[name])):
+            with open(path_of(name, end), 'wb') as file:
+                file.write(kept)
+    print(f'enclosures: {len(outputs)} streams with {tally.records} records are stored in {STREAMS}')
+    return 0
+
+
+# ---------------------------------------------------------------------------
+# The run
+# ---------------------------------------------------------------------------
+
+def forget():
+    """Drop remembered values, so that a longer run takes no more memory."""
+    for remembered in (models.real_ln, models.real_root, models.slope):
+        remembered.cache_clear()
+
+
+def check_sums(tally):
+    """Check that sums and pairs that are rounded outward contain the exact ones."""
+    rng = random.Random(SEED)
+    scenarios = [*streams.short_idriss(rng)][::6] + [*streams.short_boore_atkinson(rng, (0, 10))]
+    for what, holds in formula_pairs.outward_checks(scenarios, (1, 2)):
+        if not holds:
+            tally.faults.append(f'formula_pairs.py: {what}: the pair that is rounded outward is wrong')
+
+
+def check_streams(tally, program, all_streams):
+    """Check streams until enough faults are found."""
+    for turn, stream in enumerate(all_streams, 1):
+        if tally.full():
+            return
+        ask(tally, program, stream)
+        if turn % STREAMS_REMEMBERED == 0:
+            forget()
+
+
+def check_seen(tally):
+    """Check that all kinds of outcome and all rows have been seen."""
+    wanted = {'E', *(('R', number) for number in (1, 2, 3, 4, 5, 6, 7, 8, 9, 11))}
+    rows = {(model, period) for model in (IDRISS, BOORE_ATKINSON) for period in (0, *PERIODS[model])}
+    if set(tally.outcomes) != wanted:
+        tally.faults.append(f'outcomes missing or too many: {set(tally.outcomes) ^ wanted}')
+    if tally.rows != rows:
+        tally.faults.append(f'periods missing or too many: {sorted(tally.rows ^ rows)}')
+
+
+def report(tally, words):
+    """Print the first faults and a summary; return the exit status."""
+    for fault in tally.faults[:FAULTS_SHOWN]:
+        print(f'FAILED {fault}')
+    widths = ', '.join(f'{name} {width}' for name, width in sorted(tally.widths.items()))
+    refusals = sum(many for outcome, many in tally.outcomes.items() if outcome != 'E')
+    print(f'enclosures: {words}, {tally.records} records ({refusals} refused) in {tally.processes} processes, '
+          f'{len(tally.faults)} faults, greatest widths: {widths or "none"}')
+    return 1 if tally.faults else 0
+
+
+def run(program, count, seed):
+    """Check the program; return the exit status."""
+    tally = Tally()
+    check_sums(tally)
+    check_typed(tally, program)
+    check_stored(tally, program)
+    rng = random.Random(seed)
+    check_streams(tally, program, streams.fixed(rng))
+    check_streams(tally, program, streams.drawn(rng, count))
+    if not tally.faults:
+        check_seen(tally)
+    return report(tally, f'seed {seed}, {count} drawn')
+
+
+def main(words):
+    """Read the command line and run the checks."""
+    if len(words) == 3 and words[1] == '--store':
+        return store(words[2])
+    if len(words) not in (2, 3, 4) or words[1].startswith('-') or not all(word.isdecimal() for word in words[2:]):
+        print('usage: test_enclosures.py PROGRAM [COUNT] [SEED]\n       test_enclosures.py --store PROGRAM',
+              file=sys.stderr)
+        return 2
+    numbers = [int(word) for word in words[2:]]
+    return run(words[1], *numbers, *(COUNT, SEED)[len(numbers):])
+
+
+if __name__ == '__main__':
+    sys.exit(main(sys.argv))
