@@ -1,9 +1,9 @@
 #!/usr/bin/env python3
-"""The table of proved values against exact fractions.
+"""The tables of proved values against exact fractions.
 
-Each row of crates/values/specs/Table.antt is read as text and worked out by
-exact.py, records.py and models.py, which were written from document 01 and the
-papers alone.
+Each row of crates/values/specs/Table.antt and Pairs.antt is read as text and worked
+out by exact.py, records.py, models.py and formula_pairs.py, which were written from
+document 01 and the papers alone.
 """
 
 import os
@@ -11,13 +11,14 @@ import re
 import sys
 from fractions import Fraction
 
-from exact import Pair, ln_pair, root_pair
+from exact import Pair, ln_pair, root_pair, stated
+from formula_pairs import EXACT, idriss_median, idriss_sigma, nonlinear, row_pairs, slope
 from models import (BOORE_ATKINSON_PERIODS, IDRISS_PERIODS, alpha_part, beta_factor,
                     slope_pair, table_of)
-from records import read
+from records import Scenario, read
 
 HERE = os.path.dirname(os.path.abspath(__file__))
-TABLE = os.path.join(HERE, '..', 'crates', 'values', 'specs', 'Table.antt')
+SPECS = os.path.join(HERE, '..', 'crates', 'values', 'specs')
 
 FRACTION = r'\(pos ([\d_]+) over ([\d_]+)\)'
 ENDS = FRACTION + ' ' + FRACTION
@@ -30,6 +31,15 @@ LN_EVERY = re.compile(r'atEvery \(ln ([\d_]+) ([\d_]+)\) ' + VALUE)
 SLOPE = re.compile(r'atEvery \(bnl \(booreAtkinson.rowFor ([\d_]+) \.site\) ([\d_]+)\) ' + VALUE)
 PART = re.compile(r'fraction \((alphaPart|betaFactor) \(idriss.rowFor ([\d_]+) ([\d_]+)\) ([\d_]+)\) ' + VALUE)
 
+CUT = r'cutAt ([\d_]+) \((.*)\) \((pos|neg) ([\d_]+)\) \((pos|neg) ([\d_]+)\)'
+CUT_SCENARIO = re.compile(CUT.replace('(.*)', r'(median|sigma) \(scenarioOf ' + NUMBERS + r'\)'))
+SITE = r'bnl \(rowFor ([\d_]+) \.site\) ([\d_]+)'
+CUT_SLOPE = re.compile(CUT.replace('(.*)', SITE))
+CUT_NONLINEAR = re.compile(CUT.replace('(.*)', r'nonlinearPart \(' + SITE + r'\) \(stated ' + VALUE + r'\)'))
+# Ends are cut to so many decimal places, and so many rows have to be there.
+PLACES = 60
+LEAST_PAIRS = 10
+
 # Document 01, 'Values to try', marked P: the subjects that have to be there.
 WANTED = ('pairAt 1 (ln 3 1)', 'pairAt 2 (ln 2 1)', 'atEvery (ln 7 7)',
           'pairAt 1 (root 18_225)',
@@ -40,11 +50,11 @@ WANTED = ('pairAt 1 (ln 3 1)', 'pairAt 2 (ln 2 1)', 'atEvery (ln 7 7)',
           'reads (0x37 ∷ 0x01 ∷ 0xBC ∷ 0x02 ∷ 0xE8 ∷ 0x03 ∷ 0x02 ∷ 0x4B ∷ 0x00 ∷ [])')
 
 
-def rows(path):
-    """Return the rows between 'values =' and the empty list, as text."""
-    with open(path, encoding='utf-8') as file:
+def rows(file_name, name):
+    """Return the rows of a table, from its name to the empty list, as text."""
+    with open(os.path.join(SPECS, file_name), encoding='utf-8') as file:
         text = file.read()
-    body = re.search(r'^values =\n(.*?)^    \[\]$', text, re.M | re.S).group(1)
+    body = re.search(rf'^{name} =\n(.*?)^    \[\]$', text, re.M | re.S).group(1)
     body = re.sub(r'^\s*--.*\n', '', body, flags=re.M)
     table = [' '.join(row.split()) for row in re.split(r'∷(?![^(]*\))', body)]
     return [row for row in table if row]
@@ -103,12 +113,47 @@ def reads_holds(match):
     return kind == 'E' and [*values[0], values[1]] == fields
 
 
+def whole(word):
+    """Return a whole number of a row."""
+    return int(word.replace('_', ''))
+
+
+def cut_holds(match, pair):
+    """Say whether the ends of a pair, cut down to whole units of the last place, are what a row states."""
+    stated_signs = match.groups()[-4:]
+    ends = [-whole(size) if sign == 'neg' else whole(size) for sign, size in zip(stated_signs[::2], stated_signs[1::2])]
+    return ends == [(end * 10 ** PLACES).__floor__() for end in pair]
+
+
+def scenario_holds(match):
+    """Say whether the pair of an Idriss scenario's median or sigma is what a row states."""
+    scenario = Scenario(*map(whole, match.group(3).split(' ∷ ')[:-1]))
+    formula = {'median': idriss_median, 'sigma': idriss_sigma}[match.group(2)]
+    return cut_holds(match, formula(EXACT, scenario, whole(match.group(1))))
+
+
+def site_slope(match):
+    """Return the pair of the slope that a row names."""
+    n, period, velocity = map(whole, match.groups()[:3])
+    at = row_pairs('boore-atkinson-3', BOORE_ATKINSON_PERIODS.index(period))
+    return slope(EXACT, at, velocity, n)
+
+
+def nonlinear_holds(match):
+    """Say whether the pair of the nonlinear part for a stated p is what a row states."""
+    p = stated(stated_value(*match.groups()[3:6]))
+    return cut_holds(match, nonlinear(EXACT, site_slope(match), p, whole(match.group(1))))
+
+
 KINDS = ((LN, lambda match: pair_holds(match, ln_pair)),
          (ROOT, lambda match: pair_holds(match, root_pair)),
          (LN_EVERY, lambda match: every_holds(match, ln_pair)),
          (SLOPE, lambda match: every_holds(match, slope_at)),
          (PART, part_holds),
-         (READS, reads_holds))
+         (READS, reads_holds),
+         (CUT_SCENARIO, scenario_holds),
+         (CUT_SLOPE, lambda match: cut_holds(match, site_slope(match))),
+         (CUT_NONLINEAR, nonlinear_holds))
 
 
 def row_holds(row):
@@ -122,15 +167,16 @@ def row_holds(row):
 
 def main():
     """Check every row."""
-    table = rows(TABLE)
-    wrong = [row for row in table if not row_holds(row)]
+    table, pairs = rows('Table.antt', 'values'), rows('Pairs.antt', 'pairs')
+    wrong = [row for row in table + pairs if not row_holds(row)]
     missing = [subject for subject in WANTED
                if not any(row.startswith(subject + ' ') for row in table)]
+    missing += ['more pairs'] * (len(pairs) < LEAST_PAIRS)
     for row in wrong:
         print('wrong:', row)
     for subject in missing:
         print('missing:', subject)
-    print(f'proved values: {len(table)} rows, {len(wrong)} wrong, '
+    print(f'proved values: {len(table)} rows and {len(pairs)} pairs, {len(wrong)} wrong, '
           f'{len(missing)} missing')
     sys.exit(1 if wrong or missing else 0)
 

@@ -4,9 +4,13 @@ use mathlib.Core.Path.{_≡_, refl}
 use mathlib.Core.Bool.{Bool, true, false, not, _&&_}
 use mathlib.Core.List.{List, [], _∷_}
 use mathlib.Core.Option.{Option, none, some}
-use Prim.Native.Nat.{ℕ, _≤_}
+use Prim.Native.Nat.{ℕ, zero, suc, _^_, _≤_}
+use native.Mathlib.Nat.{le-of-suc-le-suc}
+use lib.IntN.{ℤ, pos, _+ℤ_}
+use lib.ListN.{getD, drop}
 use lib.Dec.{T, eqb, leb, eqb→eq, leb→le}
-use Rattle.exact.specs.Fraction.{Fraction, _over_, leQ, zeroQ, negQ, _+q_, _-q_, _*q_}
+use Rattle.exact.specs.Fraction.{Fraction, _over_, leQ, zeroQ, negQ, _+q_, _-q_, _*q_, _/q_, flip, recipQ, minQ, maxQ}
+use Rattle.exact.specs.Pair.{exactly, _+p_, _-p_, _*p_, _/p_, span4, hull, reachesUpTo, reachesAbove, branch}
 use Rattle.exact.specs.Logarithm.{harmonic, lowerSum, upperSum, lnPair}
 use Rattle.exact.specs.Root.{greatest, wholeRoot, rootValues, rootPair}
 use Rattle.exact.specs.Formula.{Formula, stated, ln, root, _⊕_, _⊖_, _⊗_, _⊘_, ifUpTo, eval, Defined}
@@ -14,12 +18,16 @@ use Rattle.exact.proofs.AlgebraLaws.{≈q-trans}
 use Rattle.exact.proofs.Tests.{and-left, and-right, every, every-at}
 use Rattle.scenario.specs.Refusal.{refusalBy, refusalOf, idrissRow, booreAtkinsonRow}
 use Rattle.idriss.specs.Tables.{takesTable3, rowAt, rowFor}
-use Rattle.idriss.specs.Median.{alphaPart, betaFactor}
+use Rattle.idriss.specs.Median.{alphaPart, betaFactor, F, median as idrissMedian}
+use Rattle.idriss.specs.Sigma.{sigma as idrissSigma}
 use Rattle.boore_atkinson.specs.Tables.{rowAt as secondRowAt, rowFor as secondRowFor}
 use Rattle.boore_atkinson.specs.SiteTerm.{bnl}
+use Rattle.boore_atkinson.specs.SiteTerm as site
 use Rattle.record.specs.Layout.{sizeOf, numbersOf, absentWritten}
 use Rattle.record.specs.Outcome.{readingNumber, readingValues, scenarioIn, lengthBy, mapRefusal, readRefusal, readOf}
-use Rattle.values.specs.Table.{Check, pairAt, atEvery, fraction, reads, HasEnds, Holds, AllHold, values}
+use Rattle.values.specs.Table.{Check, pairAt, cutAt, atEvery, fraction, reads, HasEnds, CutTo, Holds, AllHold, values}
+use Rattle.values.specs.Pairs.{pairs}
+use Rattle.engine.specs.Models.{median, sigma}
 use Rattle.values.proofs.Constant.{same, same-is, merged, zeroOver, positive, constant, Found, found}
 
 -- ---- the test of a row
@@ -46,8 +54,13 @@ unfoldable matches : Option Fraction → Fraction → Bool
 matches none x = false
 matches (some y) x = same y x
 
+-- x in 10^-60, rounded down, is z
+unfoldable cutTo : Fraction → ℤ → Bool
+cutTo x z = leQ (z over (10 ^ 60)) x && not (leQ ((z +ℤ pos 1) over (10 ^ 60)) x)
+
 unfoldable passes : Check → Bool
 passes (pairAt n e x y) = (leb 1 n && sound n e) && (same (eval n e .low) x && same (eval n e .high) y)
+passes (cutAt n e x y) = (leb 1 n && sound n e) && (cutTo (eval n e .low) x && cutTo (eval n e .high) y)
 passes (atEvery e x) = matches (constant e) x
 passes (fraction x y) = same x y
 passes (reads s xs) = eqb (readingNumber (readOf s)) 0 && sameList (readingValues (readOf s)) xs
@@ -90,6 +103,12 @@ has-ends n e x y t =
     let u = both (same (eval n e .low) x) (same (eval n e .high) y) t in
     record { low = same-is (u .0); high = same-is (u .1) }
 
+is-cut : (x : Fraction) (z : ℤ) → T (cutTo x z) → CutTo x z
+unfolding cutTo
+is-cut x z t =
+    let u = both (leQ (z over (10 ^ 60)) x) (not (leQ ((z +ℤ pos 1) over (10 ^ 60)) x)) t in
+    record { from = record { le = u .0 }; below = record { lt = u .1 } }
+
 at-every : (e : Formula) (x : Fraction) (a : Option Fraction) → Found e a → T (matches a x) →
     (n : ℕ) → 1 ≤ n → Defined n e × HasEnds (eval n e) x x
 unfolding matches
@@ -104,6 +123,11 @@ holds (pairAt n e x y) t =
     let u = both (leb 1 n && sound n e) (same (eval n e .low) x && same (eval n e .high) y) t in
     let v = both (leb 1 n) (sound n e) (u .0) in
     (leb→le 1 n (v .0), defined n e (v .1), has-ends n e x y (u .1))
+holds (cutAt n e x y) t =
+    let u = both (leb 1 n && sound n e) (cutTo (eval n e .low) x && cutTo (eval n e .high) y) t in
+    let v = both (leb 1 n) (sound n e) (u .0) in
+    let w = both (cutTo (eval n e .low) x) (cutTo (eval n e .high) y) (u .1) in
+    (leb→le 1 n (v .0), defined n e (v .1), is-cut _ x (w .0), is-cut _ y (w .1))
 holds (atEvery e x) t = at-every e x (constant e) (found e) t
 holds (fraction x y) t = same-is t
 holds (reads s xs) t =
@@ -119,6 +143,28 @@ unfolding passes matches constant merged zeroOver positive rowFor secondRowFor r
     scenarioIn lengthBy numbersOf sizeOf absentWritten refusalOf refusalBy
 all-pass = tt
 
-pub all-hold : AllHold
+pub all-hold : AllHold values
 unfolding AllHold
 all-hold k h = holds _ (every-at (λ k c. passes c) _ 0 values all-pass k h)
+
+-- ---- and the pairs
+
+-- in two parts, as one declaration may take so many steps and not more
+first-passes : T (passes (getD pairs 0 (fraction zeroQ zeroQ)))
+unfolding passes cutTo sound median sigma idrissMedian idrissSigma rowFor secondRowFor rowAt takesTable3 idrissRow
+    booreAtkinsonRow secondRowAt bnl site.nonlinearPart site.lowPart site.transition site.highPart site.c site.d site.x site.y alphaPart betaFactor F eval
+    lnPair lowerSum upperSum harmonic exactly _+p_ _-p_ _*p_ _/p_ span4 hull reachesUpTo reachesAbove branch minQ maxQ
+    leQ zeroQ negQ _+q_ _-q_ _*q_ _/q_ flip recipQ _over_
+first-passes = tt
+
+later-pass : T (every (λ k c. passes c) 1 (drop 1 pairs))
+unfolding passes cutTo sound median sigma idrissMedian idrissSigma rowFor secondRowFor rowAt takesTable3 idrissRow
+    booreAtkinsonRow secondRowAt bnl site.nonlinearPart site.lowPart site.transition site.highPart site.c site.d site.x site.y alphaPart betaFactor F eval
+    lnPair lowerSum upperSum harmonic exactly _+p_ _-p_ _*p_ _/p_ span4 hull reachesUpTo reachesAbove branch minQ maxQ
+    leQ zeroQ negQ _+q_ _-q_ _*q_ _/q_ flip recipQ _over_
+later-pass = tt
+
+pub pairs-hold : AllHold pairs
+unfolding AllHold
+pairs-hold zero h = holds _ first-passes
+pairs-hold (suc k) h = holds _ (every-at (λ k c. passes c) _ 1 (drop 1 pairs) later-pass k (le-of-suc-le-suc h))

@@ -1,10 +1,10 @@
 -- The values that document 01, 'Values to try', marks P: one table, and what it is that a row of it holds.
 use mathlib.Core.Path.{_≡_}
 use mathlib.Core.List.{List, [], _∷_}
-use Prim.Native.Nat.{ℕ, _≤_, _<_}
-use lib.IntN.{ℤ, pos, negℤ}
+use Prim.Native.Nat.{ℕ, _^_, _≤_, _<_}
+use lib.IntN.{ℤ, pos, negℤ, _+ℤ_}
 use lib.ListN.{length, getD}
-use Rattle.exact.specs.Fraction.{Fraction, _over_, zeroQ, _≈q_}
+use Rattle.exact.specs.Fraction.{Fraction, _over_, zeroQ, _≤q_, _<q_, _≈q_}
 use Rattle.exact.specs.Pair.{Pair}
 use Rattle.idriss.specs.Tables as idriss
 use Rattle.idriss.specs.Median.{alphaPart, betaFactor}
@@ -17,6 +17,8 @@ use Rattle.exact.specs.Formula.{Formula, ln, root, eval, Defined}
 pub data Check : Type 0 where
   -- pairs: the pair of a formula at fineness n has these two ends
   pairAt : ℕ → Formula → Fraction → Fraction → Check
+  -- long pairs: the two ends in 10^-60, rounded down, are these
+  cutAt : ℕ → Formula → ℤ → ℤ → Check
   -- and at every fineness both ends of the pair have this value
   atEvery : Formula → Fraction → Check
   -- fractions: what is worked out has this value
@@ -29,14 +31,20 @@ pub record HasEnds (P : Pair) (x y : Fraction) : Type 0 where
   pub low : P .low ≈q x
   pub high : P .high ≈q y
 
+-- x in 10^-60, rounded down, is z
+pub record CutTo (x : Fraction) (z : ℤ) : Type 0 where
+  pub from : z over (10 ^ 60) ≤q x
+  pub below : x <q (z +ℤ pos 1) over (10 ^ 60)
+
 -- what a row says: of a formula's pair also that it is worked out with numbers that are defined
 unfoldable pub Holds : Check → Type 0
 Holds (pairAt n e x y) = (1 ≤ n) × Defined n e × HasEnds (eval n e) x y
+Holds (cutAt n e x y) = (1 ≤ n) × Defined n e × CutTo (eval n e .low) x × CutTo (eval n e .high) y
 Holds (atEvery e x) = (n : ℕ) → 1 ≤ n → Defined n e × HasEnds (eval n e) x x
 Holds (fraction x y) = x ≈q y
 Holds (reads s xs) = (readingNumber (readOf s) ≡ 0) × (readingValues (readOf s) ≡ xs)
 
-abbrev neg : ℕ → ℤ
+abbrev pub neg : ℕ → ℤ
 neg n = negℤ (pos n)
 
 -- the rows, in document 01's order
@@ -63,5 +71,5 @@ values =
     []
 
 -- the shared statement: every row holds
-unfoldable pub AllHold : Type 0
-AllHold = (k : ℕ) → k < length values → Holds (getD values k (fraction zeroQ zeroQ))
+unfoldable pub AllHold : List Check → Type 0
+AllHold rows = (k : ℕ) → k < length rows → Holds (getD rows k (fraction zeroQ zeroQ))
