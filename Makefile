@@ -1,17 +1,20 @@
-# make run    proves the crates that it needs and runs what there is of the main job
-# make test   all that the gate runs; its last line is 'N passed, 0 failed'
+# make run     proves the program and prints the enclosures of a sample file
+# make test    all that the gate runs; its last line is 'N passed, 0 failed'
+# make longer  the test of the program on many more records
 
 export PATH := $(PATH):/opt/rattle/bin
 export PYTHONDONTWRITEBYTECODE := 1
 SHELL := /bin/bash
 CC := gcc
 PROBE := target/tests/probe
+PROGRAM := target/bin/enclosures
+SAMPLE := tests/streams/sample
 
-.PHONY: run test definitions outside test_logarithm test_records test_models probe need
+.PHONY: run test longer definitions outside test_logarithm test_records test_models test_enclosures probe program need
 .SILENT:
 
-run: probe
-	while read -r question; do echo "$$question: $$(echo "$$question" | $(PROBE))"; done < tests/questions
+run: program
+	$(PROGRAM) < $(SAMPLE).stdin
 
 # What rt ci proves from nothing is not proved once more for the tests of the program; its last line comes at the end.
 test: definitions
@@ -20,17 +23,25 @@ test: definitions
 	rt ci 2>&1 | tee $$verdict && $(MAKE) --no-print-directory -j 2 -O outside && tail -n 1 $$verdict; \
 	status=$$?; rm -f $$verdict; exit $$status
 
-# The tests outside Rattle of what the definitions say, and of the program.
+longer: program
+	python3 tests/test_enclosures.py $(PROGRAM) 1000000 2008
+
+# The tests outside Rattle of what the definitions say, and of the programs.
 definitions: need
 	tools/logarithm_tables.py --check
 	python3 tests/test_exact.py
 	python3 tests/test_values.py
 	python3 tests/test_coefficients.py
+	cmp $(SAMPLE).stdin crates/enclosures/stdin
+	cmp $(SAMPLE).stdout crates/enclosures/stdout
 
-outside: test_logarithm test_records test_models
+outside: test_logarithm test_records test_models test_enclosures
 
 test_logarithm test_records test_models: test_%: probe
 	python3 tests/$@.py $(PROBE)
+
+test_enclosures: program
+	python3 tests/$@.py $(PROGRAM)
 
 # A program over the proved libraries, for the tests.
 probe: need
@@ -40,6 +51,11 @@ probe: need
 	done
 	$(CC) -O2 -Wall -Wextra -Werror -std=c99 -o $(PROBE) tests/probe.c \
 	    target/staticlib/libprobe.a target/staticlib/librecord_probe.a target/staticlib/libmodel_probe.a
+
+# The program, proved.
+program: need
+	mkdir -p target/tests
+	rt check enclosures > target/tests/enclosures.log 2>&1 || { cat target/tests/enclosures.log; exit 1; }
 
 need:
 	tools/need

@@ -479,12 +479,19 @@ def both_models():
     return b''.join(map(record, scenarios))
 
 
+def sample():
+    """Return the records of one earthquake, M 7.00 and reverse at 10 km on 760 m/s, at some periods by both models."""
+    return b''.join(record(Scenario(model, 700, 1000, 7600, 2, period))
+                    for model in (IDRISS, BOORE_ATKINSON) for period in (0, 50, 75, 100, 200, 1000))
+
+
 def stored():
     """Return the bytes of the stored streams by name."""
     few = b''.join(sized(length, length) for length in range(6, 12)) + record(WHOLE[IDRISS])
     return {
         'document_example': bytes.fromhex('37 01 BC 02 E8 03 02 46 00'),
         'empty': b'',
+        'sample': sample(),
         'both_models': both_models(),
         **{f'refusal_{number}': few + last for number, last in REFUSED.items()},
         'longer_than_4096': filled(TAKEN) + filled(1000),
