@@ -29,7 +29,7 @@ use Rattle.engine.specs.declared.Enclosure.{Enclosure}
 use Rattle.engine.specs.declared.Answer.{Answer}
 use Rattle.engine.specs.declared.DoublesAnswer.{DoublesAnswer}
 use Rattle.engine.specs.declared.Answer.the-variants as A
-use Rattle.engine.specs.Models.{median, sigma, idrissWidth, booreAtkinsonWidth, medianWidth, sigmaWidth}
+use Rattle.engine.specs.Models.{median, sigma, idrissWidth, booreAtkinsonWidth, medianWidth, idrissSigmaWidth, sigmaWidth}
 use Rattle.engine.specs.Promise.{EnclosedWithin, AnswerPromise, DoublesPromise}
 use Rattle.engine.specs.Evaluation.{enclosureOf, answerBy, SmallEnclosure, SmallAnswer, doublesOf, inDoubles}
 use Rattle.engine.proofs.Exact.{equals}
@@ -39,7 +39,7 @@ use Rattle.engine.proofs.Exact.{equals}
 -- they enclose what the model gives, and a double equals each
 pub record Sound (s : Scenario) (e : Enclosure) : Type 0 where
   pub median-enclosed : EnclosedWithin (medianWidth s) (median s) (e .median .low) (e .median .high)
-  pub sigma-enclosed : EnclosedWithin sigmaWidth (sigma s) (e .sigma .low) (e .sigma .high)
+  pub sigma-enclosed : EnclosedWithin (sigmaWidth s) (sigma s) (e .sigma .low) (e .sigma .high)
   pub small : SmallEnclosure e
 
 -- ends that are at most v units apart are at most w
@@ -64,13 +64,13 @@ module _ (s : Scenario) (w : Within idriss s) where
       (idriss-median-domain s (idriss-row (s .period) (w .period)) w)
 
   idriss-sound : s .model ≡ 1 → Sound s (enclosureOf s)
-  unfolding enclosureOf median sigma medianWidth
+  unfolding enclosureOf median sigma medianWidth sigmaWidth
   idriss-sound model =
       let m = idriss-median in
       let g = idriss-sigma-promise (s .period) (s .magnitude) (sigma-domain s w) in
       rw model (record {
         median-enclosed = within idrissPromise.medianWidth idrissWidth (omega arith) (m .encloses) (m .narrow);
-        sigma-enclosed = within idrissPromise.sigmaWidth sigmaWidth (omega arith) (g .encloses) (g .narrow);
+        sigma-enclosed = within idrissPromise.sigmaWidth idrissSigmaWidth (omega arith) (g .encloses) (g .narrow);
         small = record { median = m .small; sigma = g .small };
       })
 
@@ -91,13 +91,13 @@ module _ (s : Scenario) (w : Within booreAtkinson s) where
       boore-atkinson-sigma-promise _ (s .mechanism) (boore-atkinson-row (s .period) (w .period))
 
   boore-atkinson-sound : s .model ≡ 2 → Sound s (enclosureOf s)
-  unfolding enclosureOf median sigma medianWidth
+  unfolding enclosureOf median sigma medianWidth sigmaWidth
   boore-atkinson-sound model =
       let m = boore-atkinson-median in
       let g = boore-atkinson-sigma in
       rw model (record {
         median-enclosed = within booreAtkinsonPromise.medianWidth booreAtkinsonWidth (omega arith) (m .encloses) (m .narrow);
-        sigma-enclosed = record { encloses = g .encloses; narrow = rw (g .equal) (at-most-above _ sigmaWidth) };
+        sigma-enclosed = record { encloses = g .encloses; narrow = rw (g .equal) (at-most-above _ 0) };
         small = record { median = m .small; sigma = g .small };
       })
 

@@ -39,6 +39,9 @@ booreAtkinsonWidth = 2_000
 unfoldable pub medianWidth : Scenario → ℕ
 medianWidth s = byModel s idrissWidth booreAtkinsonWidth
 
--- "at most 10 units apart" (demand 3)
-abbrev pub sigmaWidth : ℕ
-sigmaWidth = 10
+-- "at most 10 units apart" (demand 3); of Boore-Atkinson's sigma "Its two ends are equal" ('Boore-Atkinson on rock')
+abbrev pub idrissSigmaWidth : ℕ
+idrissSigmaWidth = 10
+
+unfoldable pub sigmaWidth : Scenario → ℕ
+sigmaWidth s = byModel s idrissSigmaWidth 0

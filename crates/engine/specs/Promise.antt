@@ -42,7 +42,7 @@ pub record EnclosesBoth (s : Scenario) (values : List ℤ) : Type 0 where
   pub sigmaHigh : ℤ
   pub four : values ≡ medianLow ∷ medianHigh ∷ sigmaLow ∷ sigmaHigh ∷ []
   pub median-enclosed : EnclosedWithin (medianWidth s) (median s) medianLow medianHigh
-  pub sigma-enclosed : EnclosedWithin sigmaWidth (sigma s) sigmaLow sigmaHigh
+  pub sigma-enclosed : EnclosedWithin (sigmaWidth s) (sigma s) sigmaLow sigmaHigh
 
 -- an answer to s where k is the number of the first check that applies, 0 where none does: answered "exactly when none
 -- of the refusal numbers .. applies. Otherwise it gets the first that applies" (demand 3)
