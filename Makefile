@@ -10,7 +10,7 @@ PROBE := target/tests/probe
 PROGRAM := target/bin/enclosures
 SAMPLE := tests/streams/sample
 
-.PHONY: run test longer definitions outside test_logarithm test_records test_models test_enclosures probe program need
+.PHONY: run test longer definitions outside test_logarithm test_records test_models test_answers test_enclosures probe program need
 .SILENT:
 
 run: program
@@ -35,9 +35,9 @@ definitions: need
 	cmp $(SAMPLE).stdin crates/enclosures/stdin
 	cmp $(SAMPLE).stdout crates/enclosures/stdout
 
-outside: test_logarithm test_records test_models test_enclosures
+outside: test_logarithm test_records test_models test_answers test_enclosures
 
-test_logarithm test_records test_models: test_%: probe
+test_logarithm test_records test_models test_answers: test_%: probe
 	python3 tests/$@.py $(PROBE)
 
 test_enclosures: program
@@ -46,11 +46,12 @@ test_enclosures: program
 # A program over the proved libraries, for the tests.
 probe: need
 	mkdir -p target/tests
-	for library in probe record_probe model_probe; do \
+	for library in probe record_probe model_probe engine_probe; do \
 	    rt staticlib $$library > target/tests/$$library.log 2>&1 || { cat target/tests/$$library.log; exit 1; }; \
 	done
 	$(CC) -O2 -Wall -Wextra -Werror -std=c99 -o $(PROBE) tests/probe.c \
-	    target/staticlib/libprobe.a target/staticlib/librecord_probe.a target/staticlib/libmodel_probe.a
+	    target/staticlib/libprobe.a target/staticlib/librecord_probe.a target/staticlib/libmodel_probe.a \
+	    target/staticlib/libengine_probe.a
 
 # The program, proved.
 program: need

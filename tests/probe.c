@@ -10,7 +10,9 @@
    idriss TABLE ROW MAGNITUDE DISTANCE VELOCITY MECHANISM, idriss_sigma PERIOD MAGNITUDE,
    boore_atkinson ROW MAGNITUDE DISTANCE VELOCITY MECHANISM, boore_atkinson_sigma ROW MECHANISM,
    nonlinear ROW VELOCITY LOW HIGH (the ends of p)
-                          LOW HIGH, or none where the arguments are not accepted */
+                          LOW HIGH, or none where the arguments are not accepted
+   answer SCENARIO, answer_record BYTES, doubles SCENARIO, doubles_record BYTES
+                          E and four ends, or R NUMBER; a double is printed as the whole number that it equals */
 #include <inttypes.h>
 #include <stdbool.h>
 #include <stdio.h>
@@ -43,6 +45,16 @@ typedef struct {
     int64_t low, high;
 } ProbedEnds;
 
+typedef struct {
+    uint8_t number;
+    int64_t ends[4];
+} ProbedAnswer;
+
+typedef struct {
+    uint8_t number;
+    double ends[4];
+} ProbedDoubles;
+
 extern Probed probe_ln(uint64_t a, uint64_t b);
 extern uint64_t probe_root(uint64_t x);
 extern uint8_t probe_refusal(Fields f);
@@ -58,6 +70,11 @@ extern ProbedEnds probe_boore_atkinson(size_t row, uint16_t magnitude, uint16_t 
                                        uint8_t mechanism);
 extern ProbedEnds probe_boore_atkinson_sigma(size_t row, uint8_t mechanism);
 extern ProbedEnds probe_nonlinear(size_t row, uint16_t velocity, uint64_t low, uint64_t high);
+
+extern ProbedAnswer probe_answer(Fields f);
+extern ProbedAnswer probe_answer_record(const uint8_t *bytes, size_t count);
+extern ProbedDoubles probe_doubles(Fields f);
+extern ProbedDoubles probe_doubles_record(const uint8_t *bytes, size_t count);
 
 /* The most bytes of a question, and how many stand after lent bytes to see whether they are touched. */
 enum { LONGEST = 1024, GUARDS = 16, GUARD = 0x5a };
@@ -161,6 +178,55 @@ static int answer_model(const char *line)
     return 1;
 }
 
+/* A refused answer has zeros for its ends. */
+static void print_answer(ProbedAnswer a)
+{
+    const int64_t *e = a.ends;
+
+    if (a.number == 0)
+        printf("E %" PRId64 " %" PRId64 " %" PRId64 " %" PRId64 "\n", e[0], e[1], e[2], e[3]);
+    else if (e[0] == 0 && e[1] == 0 && e[2] == 0 && e[3] == 0)
+        printf("R %u\n", a.number);
+    else
+        printf("R %u with ends\n", a.number);
+}
+
+static void print_doubles(ProbedDoubles d)
+{
+    ProbedAnswer a = {d.number, {0}};
+
+    for (int i = 0; i < 4; i++) {
+        if (!(d.ends[i] > -9007199254740992.0 && d.ends[i] < 9007199254740992.0)
+            || d.ends[i] != (double)(int64_t)d.ends[i]) {
+            puts("no whole number");
+            return;
+        }
+        a.ends[i] = (int64_t)d.ends[i];
+    }
+    print_answer(a);
+}
+
+/* Answers a question for an answer; 0 where it is none. */
+static int answer_whole(const char *line)
+{
+    static char text[2 * LONGEST + 1];
+    static uint8_t bytes[LONGEST];
+    Fields f;
+    long n;
+
+    if (sscanf(line, "answer " FIELDS, INTO(f)) == 6)
+        print_answer(probe_answer(f));
+    else if (sscanf(line, "doubles " FIELDS, INTO(f)) == 6)
+        print_doubles(probe_doubles(f));
+    else if (sscanf(line, "answer_record %2048s", text) == 1 && (n = bytes_of(text, bytes)) >= 0)
+        print_answer(probe_answer_record(bytes, (size_t)n));
+    else if (sscanf(line, "doubles_record %2048s", text) == 1 && (n = bytes_of(text, bytes)) >= 0)
+        print_doubles(probe_doubles_record(bytes, (size_t)n));
+    else
+        return 0;
+    return 1;
+}
+
 /* Answers one line; 0 where it is no question. */
 static int answer(const char *line)
 {
@@ -191,7 +257,7 @@ static int answer(const char *line)
     } else if (sscanf(line, "write " FIELDS " %2048s", INTO(f), text) == 7 && (n = bytes_of(text, bytes)) >= 0) {
         answer_write(f, bytes, (size_t)n);
     } else {
-        return answer_model(line);
+        return answer_model(line) || answer_whole(line);
     }
     return 1;
 }
