@@ -11,7 +11,8 @@ use Rattle.scenario.specs.Refusal.{refusalOf}
 use Rattle.record.specs.declared.Reading.the-variants.{Read}
 use Rattle.record.specs.declared.Writing.the-variants.{Length}
 use Rattle.record.specs.Layout.{Bytes, recordOf}
-use Rattle.record.specs.Outcome.{readOf, restOf, writeOf, lentAfter}
+use Rattle.record.specs.Outcome.{mapIn, readOf, restOf, writeOf, lentAfter}
+use Rattle.record.proofs.FieldLaws.{length-is}
 use Rattle.record.proofs.ReadBack.{read-written, rest-written}
 use Rattle.record.proofs.ReadingLaws.{read-as}
 use Rattle.record.proofs.RecordBytes.{record-bytes}
@@ -70,6 +71,14 @@ module _ (s : List ℕ) (h : Bytes s) (x : Scenario) (n : ℕ) (e : readOf s ≡
   read-is-written lent l =
       let w = is-written x lent read-is-accepted (rw record-size l) in
       (sym (rw record-size at (w .answer)), sym (rw (record-size, read-is-record) at (w .bytes)))
+
+-- ---- a record that is read has six bytes or more, and is within the bytes
+
+pub read-size : (s : List ℕ) (x : Scenario) (n : ℕ) → readOf s ≡ Read x n → (6 ≤ n) × (n ≤ length s)
+read-size s x n e =
+    let r = read-as s x n e in
+    let front = r .passes .front in
+    (omega (arith, r .size, length-is (mapIn s) (front .passes)), omega (arith, r .size, front .room))
 
 -- ---- and so an accepted scenario has one record: any bytes that are read as it are those
 

@@ -124,13 +124,6 @@ read-as s x n e = go (readRefusal s) refl e
         }
     go (suc k) p q = let z : _≡_ {A = ℕ} 0 1 = cc in absurd (omega arith)
 
--- a record that is read has a byte or more, and is within the bytes
-pub read-size : (s : List ℕ) (x : Scenario) (n : ℕ) → readOf s ≡ Read x n → (1 ≤ n) × (n ≤ length s)
-unfolding lengthBy
-read-size s x n e =
-    let r = read-as s x n e in
-    (omega (arith, r .size), omega (arith, r .size, r .passes .front .room))
-
 -- s is refused
 pub record NotRead (s : List ℕ) : Type 0 where
   pub place : restAt s ≡ 0

@@ -17,7 +17,7 @@ use Rattle.engine.specs.declared.Answer.the-variants as A
 use Rattle.report.specs.declared.Word.{Word}
 use Rattle.report.specs.declared.Words.{Words}
 use Rattle.report.specs.Text.{decimal, signedDecimal, spaced}
-use Rattle.report.specs.Lines.{lineOf, lengthOn, lentAfter}
+use Rattle.report.specs.Lines.{lineOf, lastLineOf, lengthOn, lentAfter}
 use Rattle.report.specs.Steps.{wordOf, wordsFor, signBytes, wordBytes, bothBytes, headBytes}
 use Rattle.report.proofs.TextLaws.{decimal-most}
 
@@ -122,3 +122,7 @@ line-most position (A.Refused k) =
       decimal-most position,
       decimal-most k,
     ))
+
+pub last-line-most : (count : ℕ) → length (lastLineOf count) ≤ 24
+unfolding lastLineOf
+last-line-most count = omega (arith, decimal-most count)

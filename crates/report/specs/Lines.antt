@@ -19,6 +19,13 @@ wordsOf (A.Refused k) = (82 ∷ []) ∷ (decimal k ∷ [])
 unfoldable pub lineOf : ℕ → Answer → List ℕ
 lineOf position a = decimal position ++ spaced (wordsOf a)
 
+-- '"end" with the count of those record lines', without its line end
+abbrev pub endBytes : List ℕ
+endBytes = 101 ∷ 110 ∷ 100 ∷ 32 ∷ []
+
+unfoldable pub lastLineOf : ℕ → List ℕ
+lastLineOf count = endBytes ++ decimal count
+
 -- ---- on lent bytes: the line at their front, later bytes unchanged; where it does not fit, nothing is written
 
 unfoldable pub lengthOn : List ℕ → List ℕ → ℕ
