@@ -7,7 +7,7 @@ use borrow.Author.Tests.{le-ltb}
 use borrow.Rule.Slice.PartMut.{putMid, same-len-mid}
 use lib.ListN.{length, set, take, drop, length-append, length-set, length-drop}
 use lib.Seq.{length-take-le, set-at, take-at, append-snoc}
-use Rattle.report.specs.Lines.{lengthOn, lentAfter}
+use Rattle.report.specs.Lines.{lengthOn, bytesAfter}
 use Rattle.enclosures.specs.Output.{ended}
 use Rattle.enclosures.specs.Steps.{Added}
 
@@ -31,7 +31,7 @@ part before at = take (length before - at) (drop at before)
 
 -- a line is put at the front of that part, which has room for it and a byte more
 module _ (line before : List ℕ) (at : ℕ) {n : ℕ} {put : List ℕ} (room : at + length line + 1 ≤ length before)
-    (count : n ≡ lengthOn line (part before at)) (is : put ≡ lentAfter line (part before at)) where
+    (count : n ≡ lengthOn line (part before at)) (is : put ≡ bytesAfter line (part before at)) where
   part-length : length (part before at) + at ≡ length before
   part-length =
       omega (arith, room, length-take-le (length before - at) (drop at before) (omega (arith, length-drop at before)))
@@ -44,7 +44,7 @@ module _ (line before : List ℕ) (at : ℕ) {n : ℕ} {put : List ℕ} (room : 
   long = rw (le-ltb (length (part before at)) (length line) fits) at count
 
   put-is : put ≡ line ++ drop (length line) (part before at)
-  unfolding lentAfter
+  unfolding bytesAfter
   put-is = rw (le-ltb (length (part before at)) (length line) fits) at is
 
   -- the byte after it is within what is lent

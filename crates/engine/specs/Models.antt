@@ -10,7 +10,8 @@ use Rattle.idriss.specs.Sigma.{sigma as idrissSigma}
 use Rattle.boore_atkinson.specs.Tables.{rowFor as booreAtkinsonRowFor, totalFor as booreAtkinsonTotalFor}
 use Rattle.boore_atkinson.specs.Median.{median as booreAtkinsonMedian, sigma as booreAtkinsonSigma}
 
--- x of an Idriss scenario, y of a Boore-Atkinson scenario: "model 1" and "model 2" ('The scenario')
+-- x of an Idriss scenario, y of a Boore-Atkinson scenario: "model 1" and "model 2" ('The scenario'); no other model is
+-- answered
 module _ {A : Type 0} where
   abbrev pub byModel : Scenario → A → A → A
   byModel s x y = cond (eqb (s .model) 1) x y
@@ -29,19 +30,22 @@ sigma s =
     (idrissSigma (s .period) (s .magnitude))
     (booreAtkinsonSigma (booreAtkinsonTotalFor (s .period)) (s .mechanism))
 
--- "at most 100 units of 10^-9 apart for Idriss and 2,000 for Boore-Atkinson" (demand 3)
+-- "at most 100 units of 10^-9 apart for Idriss" (demand 3)
 abbrev pub idrissWidth : ℕ
 idrissWidth = 100
 
+-- "and 2,000 for Boore-Atkinson" (demand 3)
 abbrev pub booreAtkinsonWidth : ℕ
 booreAtkinsonWidth = 2_000
 
+-- how far the ends of the median may be apart
 unfoldable pub medianWidth : Scenario → ℕ
 medianWidth s = byModel s idrissWidth booreAtkinsonWidth
 
--- "at most 10 units apart" (demand 3); of Boore-Atkinson's sigma "Its two ends are equal" ('Boore-Atkinson on rock')
+-- "at most 10 units apart" (demand 3)
 abbrev pub idrissSigmaWidth : ℕ
 idrissSigmaWidth = 10
 
+-- and those of sigma; of Boore-Atkinson's "Its two ends are equal" ('Boore-Atkinson on rock')
 unfoldable pub sigmaWidth : Scenario → ℕ
 sigmaWidth s = byModel s idrissSigmaWidth 0

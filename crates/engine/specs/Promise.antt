@@ -45,7 +45,8 @@ pub record EnclosesBoth (s : Scenario) (values : List ℤ) : Type 0 where
   pub sigma-enclosed : EnclosedWithin (sigmaWidth s) (sigma s) sigmaLow sigmaHigh
 
 -- an answer to s where k is the number of the first check that applies, 0 where none does: answered "exactly when none
--- of the refusal numbers .. applies. Otherwise it gets the first that applies" (demand 3)
+-- of the refusal numbers .. applies. Otherwise it gets the first that applies" (demand 3). A refusal with the number 0
+-- is no answer: it has no values to enclose anything. The last line follows from the first, and is there to be read
 pub record AnswerPromise (k : ℕ) (s : Scenario) (a : Answer) : Type 0 where
   pub number : answerNumber a ≡ k
   pub enclosed : k ≡ 0 → EnclosesBoth s (answerValues a)
@@ -53,6 +54,7 @@ pub record AnswerPromise (k : ℕ) (s : Scenario) (a : Answer) : Type 0 where
 
 -- ---- in doubles
 
+-- the number and the values of each case, as of an answer
 abbrev pub doublesNumber : DoublesAnswer → ℕ
 doublesNumber (D.Enclosed d) = 0
 doublesNumber (D.Refused k) = k

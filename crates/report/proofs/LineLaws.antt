@@ -17,7 +17,7 @@ use Rattle.engine.specs.declared.Answer.the-variants as A
 use Rattle.report.specs.declared.Word.{Word}
 use Rattle.report.specs.declared.Words.{Words}
 use Rattle.report.specs.Text.{decimal, signedDecimal, spaced}
-use Rattle.report.specs.Lines.{lineOf, lastLineOf, lengthOn, lentAfter}
+use Rattle.report.specs.Lines.{lineOf, lastLineOf, lengthOn, bytesAfter}
 use Rattle.report.specs.Steps.{wordOf, wordsFor, signBytes, wordBytes, bothBytes, headBytes}
 use Rattle.report.proofs.TextLaws.{decimal-most}
 
@@ -59,8 +59,8 @@ refused-parts position k = rw (append-nil (decimal k)) (sym (append-assoc (decim
 -- ---- on lent bytes: what is said of a line that is known by its parts, of n bytes
 
 module _ (line parts lent : List ℕ) (is : line ≡ parts) {n : ℕ} (size : n ≡ length parts) where
-  pub too-short : length lent < n → (0 ≡ lengthOn line lent) × (lent ≡ lentAfter line lent)
-  unfolding lengthOn lentAfter
+  pub too-short : length lent < n → (0 ≡ lengthOn line lent) × (lent ≡ bytesAfter line lent)
+  unfolding lengthOn bytesAfter
   too-short h =
       let short = lt-ltb (length lent) (length parts) (omega (arith, h, size)) in
       (rw (is, short) refl, rw (is, short) refl)
@@ -69,8 +69,8 @@ module _ (line parts lent : List ℕ) (is : line ≡ parts) {n : ℕ} (size : n 
   has-room h = omega (arith, h, size)
 
   pub written : {next : ℕ} {after : List ℕ} → n ≤ length lent → Put 0 parts lent next after →
-      (n ≡ lengthOn line lent) × (after ≡ lentAfter line lent)
-  unfolding lengthOn lentAfter
+      (n ≡ lengthOn line lent) × (after ≡ bytesAfter line lent)
+  unfolding lengthOn bytesAfter
   written h p =
       let room : length parts ≤ length lent = omega (arith, h, size) in
       let long = le-ltb (length lent) (length parts) room in

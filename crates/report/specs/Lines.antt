@@ -10,7 +10,7 @@ use Rattle.engine.specs.declared.Answer.the-variants as A
 use Rattle.engine.specs.Promise.{answerValues}
 use Rattle.report.specs.Text.{decimal, signedDecimal, spaced}
 
--- "E and four ends in the order of the answer, or R and the number"; the letters as bytes
+-- "E and four ends in the order of the answer, or R and the number"; 69 is the byte of E, 82 that of R
 abbrev pub wordsOf : Answer → List (List ℕ)
 wordsOf (A.Enclosed e) = (69 ∷ []) ∷ map signedDecimal (answerValues (A.Enclosed e))
 wordsOf (A.Refused k) = (82 ∷ []) ∷ (decimal k ∷ [])
@@ -26,10 +26,11 @@ endBytes = 101 ∷ 110 ∷ 100 ∷ 32 ∷ []
 unfoldable pub lastLineOf : ℕ → List ℕ
 lastLineOf count = endBytes ++ decimal count
 
--- ---- on lent bytes: the line at their front, later bytes unchanged; where it does not fit, nothing is written
+-- ---- on lent bytes, of which document 01 says nothing: the line at their front, later bytes unchanged; where it does
+-- not fit, its length is 0 and nothing is written
 
 unfoldable pub lengthOn : List ℕ → List ℕ → ℕ
 lengthOn line lent = cond (ltb (length lent) (length line)) 0 (length line)
 
-unfoldable pub lentAfter : List ℕ → List ℕ → List ℕ
-lentAfter line lent = cond (ltb (length lent) (length line)) lent (line ++ drop (length line) lent)
+unfoldable pub bytesAfter : List ℕ → List ℕ → List ℕ
+bytesAfter line lent = cond (ltb (length lent) (length line)) lent (line ++ drop (length line) lent)

@@ -6,7 +6,7 @@ use lib.Dec.{ltb}
 use lib.IntN.{ℤ, pos, natAbs}
 use lib.Signed.{ltZ}
 
--- the decimal digits of n, at most k of them: those of n / 10, if there is more than one, then the last
+-- the decimal digits of n, the last k of them if there are more: those of n / 10, if n has more than one, then the last
 unfoldable pub digitsBy : ℕ → ℕ → List ℕ
 digitsBy zero n = []
 digitsBy (suc k) n = cond (ltb n 10) [] (digitsBy k (n / 10)) ++ ((48 + n % 10) ∷ [])
@@ -19,7 +19,7 @@ places = 20
 unfoldable pub decimal : ℕ → List ℕ
 decimal n = digitsBy places n
 
--- the number that digits make, after the value v of those before them
+-- the number that digits make, after the value v of those before them; for the law that no digit is lost
 unfoldable pub readDecimal : ℕ → List ℕ → ℕ
 readDecimal v [] = v
 readDecimal v (d ∷ ds) = readDecimal (10 * v + (d - 48)) ds

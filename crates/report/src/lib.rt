@@ -6,7 +6,7 @@ ghost use lib.Seq.{sets};
 ghost use Rattle.record.specs.Steps.{Put};
 ghost use Rattle.engine.specs.declared.Answer.the-variants.{Enclosed, Refused};
 ghost use Rattle.report.specs.Text.{decimal};
-ghost use Rattle.report.specs.Lines.{lineOf, endBytes, lastLineOf, lengthOn, lentAfter};
+ghost use Rattle.report.specs.Lines.{lineOf, endBytes, lastLineOf, lengthOn, bytesAfter};
 ghost use Rattle.report.specs.Steps.{wordOf, wordsFor, signBytes, wordBytes, bothBytes, headBytes};
 use engine::Answer;
 use engine::Enclosure;
@@ -126,7 +126,7 @@ fn put_head(out: &mut [u8], position: u64, letter: u8) -> usize
 // The line of four ends.
 fn enclosed_line(position: u64, e: Enclosure, out: &mut [u8]) -> usize
     ensures { λ r. ⌜ r ≡ lengthOn (lineOf position (Enclosed e)) (now (out .entry)) ⌝ }
-    ensures { λ _. ⌜ now (out .exit) ≡ lentAfter (lineOf position (Enclosed e)) (now (out .entry)) ⌝ }
+    ensures { λ _. ⌜ now (out .exit) ≡ bytesAfter (lineOf position (Enclosed e)) (now (out .entry)) ⌝ }
 {
     let median = split_ends(e.median);
     let sigma = split_ends(e.sigma);
@@ -143,7 +143,7 @@ fn enclosed_line(position: u64, e: Enclosure, out: &mut [u8]) -> usize
 // The line of a refusal.
 fn refused_line(position: u64, k: u8, out: &mut [u8]) -> usize
     ensures { λ r. ⌜ r ≡ lengthOn (lineOf position (Refused k)) (now (out .entry)) ⌝ }
-    ensures { λ _. ⌜ now (out .exit) ≡ lentAfter (lineOf position (Refused k)) (now (out .entry)) ⌝ }
+    ensures { λ _. ⌜ now (out .exit) ≡ bytesAfter (lineOf position (Refused k)) (now (out .entry)) ⌝ }
 {
     let number = Word {
         minus: false,
@@ -162,7 +162,7 @@ fn refused_line(position: u64, k: u8, out: &mut [u8]) -> usize
 // the length is 0 and out is not touched.
 pub fn line(position: u64, a: Answer, out: &mut [u8]) -> usize
     ensures { λ r. ⌜ r ≡ lengthOn (lineOf position a) (now (out .entry)) ⌝ }
-    ensures { λ _. ⌜ now (out .exit) ≡ lentAfter (lineOf position a) (now (out .entry)) ⌝ }
+    ensures { λ _. ⌜ now (out .exit) ≡ bytesAfter (lineOf position a) (now (out .entry)) ⌝ }
 {
     match a {
         Answer::Enclosed(e) => enclosed_line(position, e, out),
@@ -185,7 +185,7 @@ fn put_word_end(out: &mut [u8])
 // length is 0 and out is not touched.
 pub fn last_line(count: u64, out: &mut [u8]) -> usize
     ensures { λ r. ⌜ r ≡ lengthOn (lastLineOf count) (now (out .entry)) ⌝ }
-    ensures { λ _. ⌜ now (out .exit) ≡ lentAfter (lastLineOf count) (now (out .entry)) ⌝ }
+    ensures { λ _. ⌜ now (out .exit) ≡ bytesAfter (lastLineOf count) (now (out .entry)) ⌝ }
 {
     let n = decimal_length(count) + 4;
     if out.len() < n {

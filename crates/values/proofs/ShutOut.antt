@@ -13,7 +13,7 @@ use Rattle.exact.specs.Pair.{exactly, _+p_, _-p_, _*p_, span4}
 use Rattle.exact.specs.Logarithm.{harmonic, lowerSum, upperSum, lnPair}
 use Rattle.exact.specs.Formula.{Formula, eval, units, ends}
 use Rattle.exact.proofs.FractionLaws.{over-Is, le-as, ≤q-trans}
-use Rattle.scenario.specs.Refusal.{idrissRow}
+use Rattle.scenario.specs.Refusal.{refusalBy, refusalOf, idrissRow}
 use Rattle.idriss.specs.Tables.{takesTable3, rowAt, rowFor}
 use Rattle.idriss.specs.Median.{alphaPart, betaFactor, F, median as idrissMedian}
 use Rattle.engine.specs.Models.{median, medianWidth}
@@ -54,7 +54,7 @@ same-ends : {l h m n l' h' m' n' : ℤ} {values : List ℤ} → values ≡ l ∷
 same-ends e f = (cc, cc)
 
 pub no-fixed-ends : NoFixedEnds
-unfolding NoFixedEnds medianWidth up down
+unfolding NoFixedEnds medianWidth up down refusalOf refusalBy
 no-fixed-ends a p q =
     let s = p .enclosed refl in
     let t = q .enclosed refl in

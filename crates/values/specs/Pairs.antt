@@ -10,7 +10,7 @@ use Rattle.boore_atkinson.specs.SiteTerm.{bnl, nonlinearPart}
 use Rattle.engine.specs.Models.{median, sigma}
 use Rattle.values.specs.Table.{Check, cutAt, neg}
 
--- Idriss's median by both tables and its sigma, for whole scenarios; Boore-Atkinson's slope, and its nonlinear part for
+-- Idriss's median, by Table 3, and its sigma, for whole scenarios; Boore-Atkinson's slope, and its nonlinear part for
 -- stated p below ln 0.03, between it and ln 0.09, above that, and next to ln 0.03, where the pair reaches two branches
 abbrev pub pairs : List Check
 pairs =

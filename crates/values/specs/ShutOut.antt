@@ -2,6 +2,7 @@
 -- since medians differ by more than the width".
 use mathlib.Core.List.{[], _∷_}
 use Rattle.scenario.specs.declared.Scenario.{Scenario}
+use Rattle.scenario.specs.Refusal.{refusalOf}
 use Rattle.record.specs.Layout.{scenarioOf}
 use Rattle.engine.specs.declared.Answer.{Answer}
 use Rattle.engine.specs.Promise.{AnswerPromise}
@@ -15,4 +16,5 @@ weak = scenarioOf (1 ∷ 450 ∷ 0 ∷ 4_500 ∷ 0 ∷ 10_000 ∷ [])
 
 -- no answer keeps the promise for both
 unfoldable pub NoFixedEnds : Type 0
-NoFixedEnds = (a : Answer) → AnswerPromise 0 strong a → AnswerPromise 0 weak a → ⊥
+NoFixedEnds =
+    (a : Answer) → AnswerPromise (refusalOf strong) strong a → AnswerPromise (refusalOf weak) weak a → ⊥

@@ -17,7 +17,7 @@ use Rattle.exact.specs.Formula.{Formula, ln, root, eval, Defined}
 pub data Check : Type 0 where
   -- pairs: the pair of a formula at fineness n has these two ends
   pairAt : ℕ → Formula → Fraction → Fraction → Check
-  -- long pairs: the two ends in 10^-60, rounded down, are these
+  -- long pairs: the two ends in 10^-60, rounded down, are these; that tells a number, and is no rounding of an answer
   cutAt : ℕ → Formula → ℤ → ℤ → Check
   -- and at every fineness both ends of the pair have this value
   atEvery : Formula → Fraction → Check
