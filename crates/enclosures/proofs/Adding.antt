@@ -20,7 +20,9 @@ after-front p line d rest b k e =
     let all : p ++ ((line ++ (b ∷ d)) ++ rest) ≡ front ++ (b ∷ (d ++ rest)) =
     ap (λ (l : List ℕ). p ++ l) (append-assoc line (b ∷ d) rest) ∙ sym (append-assoc p line (b ∷ (d ++ rest))) in
     let put : set (p ++ ((line ++ (b ∷ d)) ++ rest)) k 10 ≡ (front ++ (10 ∷ [])) ++ (d ++ rest) =
-    ap (λ (l : List ℕ). set l k 10) all ∙ set-at front b (d ++ rest) 10 k long ∙ sym (append-snoc front 10 (d ++ rest)) in
+    ap (λ (l : List ℕ). set l k 10) all
+    ∙ set-at front b (d ++ rest) 10 k long
+    ∙ sym (append-snoc front 10 (d ++ rest)) in
     ap (λ (l : List ℕ). take (k + 1) l) put
     ∙ take-at (front ++ (10 ∷ [])) (d ++ rest) (k + 1) (length-append front (10 ∷ []) ∙ ap (λ (n : ℕ). n + 1) long)
     ∙ append-assoc p line (10 ∷ [])

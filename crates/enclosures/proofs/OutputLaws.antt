@@ -1,7 +1,7 @@
 -- What is to follow, record by record.
-use mathlib.Core.Path.{_≡_, refl, sym, ap, _∙_}
+use mathlib.Core.Path.{_≡_, refl, sym, ap}
 use mathlib.Core.List.{List, [], _∷_, _++_}
-use Prim.Native.Nat.{ℕ, zero, suc, _+_, _<_, _≤_}
+use Prim.Native.Nat.{ℕ, zero, suc, _+_, _<_}
 use native.Mathlib.Omega.{arith}
 use lib.ListN.{length, drop}
 use Rattle.scenario.specs.declared.Scenario.{Scenario}
@@ -11,7 +11,7 @@ use Rattle.record.specs.declared.Reading.the-variants.{Read, Refused}
 use Rattle.record.specs.Outcome.{mapIn, scenarioIn, lengthBy, readRefusal, readOf, restOf}
 use Rattle.record.proofs.ReadingLaws.{read-as}
 use Rattle.engine.specs.declared.Answer.the-variants as A
-use Rattle.engine.specs.Evaluation.{answerOf, recordAnswerOf}
+use Rattle.engine.specs.Evaluation.{answerOf}
 use Rattle.engine.proofs.RecordLaws.{record-as-fields, record-refused}
 use Rattle.report.specs.Lines.{lineOf, lastLineOf}
 use Rattle.enclosures.specs.Output.{ended, linesFrom}

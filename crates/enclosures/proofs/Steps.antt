@@ -1,8 +1,7 @@
 -- The loop over the records keeps what is said of it, and ends with all lines but the last.
 use mathlib.Core.Path.{_≡_, refl, sym, ap, _∙_}
 use mathlib.Core.List.{List, [], _∷_, _++_, append-assoc}
-use Prim.Native.Nat.{ℕ, zero, suc, _+_, _*_, _-_, _≤_, _<_}
-use native.Mathlib.Nat.{le-refl}
+use Prim.Native.Nat.{ℕ, zero, suc, _+_, _-_, _≤_, _<_}
 use native.Mathlib.Omega.{arith}
 use lib.ListN.{length, take, drop, length-append, length-drop, drop-of-length-le}
 use lib.Seq.{take-all, drop-drop}
@@ -69,16 +68,17 @@ module _ {s out : List ℕ} {at count next : ℕ} (g : Going s out at count next
       let nonempty : 0 < length (drop at s) = omega (arith, some, left) in
       let all : take next out ++ linesFrom (suc (j .0)) count (drop at s) ≡ linesOf s = rw (j .1) at (g .bytes) in
       let one = one-read (j .0) count (drop at s) x n nonempty read in
+      let line = ended (lineOf (count + 1) (answerOf x)) in
+      let after : drop (at + n) s ≡ drop n (drop at s) = sym (drop-drop n at s) in
+      let follows : line ++ linesFrom (j .0) (count + 1) (drop (at + n) s) ≡ linesFrom (suc (j .0)) count (drop at s) =
+      ap (λ (l : List ℕ). line ++ linesFrom (j .0) (count + 1) l) after ∙ sym one in
       record {
         within = omega (arith, some, size, left);
         lines = omega (arith, g .lines, size);
         place = omega (arith, g .place, a .place, ended-most (count + 1) (answerOf x));
         left = j .0;
         enough = omega (arith, g .enough, j .1, size);
-        bytes =
-            one-more _ a
-            (ap (λ (l : List ℕ). take next out ++ (ended (lineOf (count + 1) (answerOf x)) ++ linesFrom (j .0) (count + 1) l))
-            (sym (drop-drop n at s)) ∙ ap (λ (l : List ℕ). take next out ++ l) (sym one) ∙ all);
+        bytes = one-more _ a (ap (λ (l : List ℕ). take next out ++ l) follows ∙ all);
       }
 
   pub refused-step : {out' : List ℕ} {next' : ℕ} (k : ℕ) → length s ≤ 4_096 → readOf (part s at) ≡ Refused k →

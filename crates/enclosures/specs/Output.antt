@@ -5,7 +5,6 @@ use Prim.Native.Nat.{ℕ, zero, suc, _+_}
 use lib.ListN.{length}
 use Rattle.scenario.specs.Checks.{unlessRefused}
 use Rattle.record.specs.Outcome.{readRefusal, restOf}
-use Rattle.engine.specs.declared.Answer.{Answer}
 use Rattle.engine.specs.Evaluation.{recordAnswerOf}
 use Rattle.report.specs.Lines.{lineOf, lastLineOf}
 
@@ -13,8 +12,8 @@ use Rattle.report.specs.Lines.{lineOf, lastLineOf}
 abbrev pub ended : List ℕ → List ℕ
 ended line = line ++ (10 ∷ [])
 
--- what comes after `count` lines where these bytes are left, at most k of them: "one line for each record (position from
--- 1 ..)", 'and "end" with the count of those record lines'; "It stops after an R or when no byte is left"
+-- what comes after `count` lines where these bytes are left, at most k of them: "one line for each record (position
+-- from 1 ..)", 'and "end" with the count of those record lines'; "It stops after an R or when no byte is left"
 unfoldable pub linesFrom : ℕ → ℕ → List ℕ → List ℕ
 linesFrom zero count bytes = ended (lastLineOf count)
 linesFrom (suc k) count [] = ended (lastLineOf count)

@@ -1,8 +1,7 @@
 -- Whole numbers below 2 ^ 53 in size are doubles: nothing is rounded.
 use mathlib.Core.Bool.{true, false}
-use Prim.Native.Nat.{ℕ, suc, _^_, _<_}
+use Prim.Native.Nat.{suc, _^_, _<_}
 use native.Mathlib.Nat.{le-of-lt}
-use native.Mathlib.Omega.{arith}
 use lib.Dec.{T, le→leb, lt→ltb}
 use lib.IntN.{ℤ, pos, negsuc}
 use lib.Signed.{mag}

@@ -1,12 +1,11 @@
 -- The promise of an answer, for every scenario, whatever number of a check it is by: demand 3.
 use mathlib.Core.Path.{_≡_, refl}
 use mathlib.Core.Logic.{inl, inr}
-use Prim.Native.Nat.{ℕ, zero, suc, _^_, _≤_}
+use Prim.Native.Nat.{ℕ, zero, suc, _≤_}
 use native.Mathlib.Omega.{arith}
 use lib.IntN.{ℤ, pos, _+ℤ_}
 use lib.Signed.{_≤ℤ_}
 use Rattle.signed.specs.declared.Ends.{Ends}
-use Rattle.signed.specs.Evaluation.{SmallerThan}
 use Rattle.signed.specs.Whole.{up, down}
 use Rattle.signed.proofs.Whole.{≤ℤ-in, add-is, within-more}
 use Rattle.exact.specs.Formula.{Formula, ends, Encloses}
@@ -96,7 +95,8 @@ module _ (s : Scenario) (w : Within booreAtkinson s) where
       let m = boore-atkinson-median in
       let g = boore-atkinson-sigma in
       rw model (record {
-        median-enclosed = within booreAtkinsonPromise.medianWidth booreAtkinsonWidth (omega arith) (m .encloses) (m .narrow);
+        median-enclosed =
+            within booreAtkinsonPromise.medianWidth booreAtkinsonWidth (omega arith) (m .encloses) (m .narrow);
         sigma-enclosed = record { encloses = g .encloses; narrow = rw (g .equal) (at-most-above _ 0) };
         small = record { median = m .small; sigma = g .small };
       })

@@ -1,5 +1,5 @@
--- What is promised of an answer, whatever the engine computes: demand 3, from fields and from a record, in whole numbers
--- and in doubles.
+-- What is promised of an answer, whatever the engine computes: demand 3, from fields and from a record, in whole
+-- numbers and in doubles.
 use mathlib.Core.Path.{_≡_}
 use mathlib.Core.Bool.{true, false}
 use mathlib.Core.List.{List, [], _∷_}

@@ -1,5 +1,5 @@
-// Answers a scenario, from its fields or from its record, with ends of median and sigma that enclose the exact values, in
-// whole units of 10^-9 or in doubles, or with the number of its refusal.
+// Answers a scenario, from its fields or from its record, with ends of median and sigma that enclose the exact values,
+// in whole units of 10^-9 or in doubles, or with the number of its refusal.
 ghost use mathlib.Core.Path.{_≡_};
 ghost use Prim.Native.Nat.{_^_, _<_};
 ghost use lib.Signed.{mag};

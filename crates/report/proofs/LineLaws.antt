@@ -15,7 +15,6 @@ use Rattle.engine.specs.declared.Enclosure.{Enclosure}
 use Rattle.engine.specs.declared.Answer.{Answer}
 use Rattle.engine.specs.declared.Answer.the-variants as A
 use Rattle.report.specs.declared.Word.{Word}
-use Rattle.report.specs.declared.Words.{Words}
 use Rattle.report.specs.Text.{decimal, signedDecimal, spaced}
 use Rattle.report.specs.Lines.{lineOf, lastLineOf, lengthOn, bytesAfter}
 use Rattle.report.specs.Steps.{wordOf, wordsFor, signBytes, wordBytes, bothBytes, headBytes}
@@ -54,7 +53,8 @@ enclosed-parts position e =
 pub refused-parts : (position k : ℕ) →
     lineOf position (A.Refused k) ≡ headBytes position 82 ++ wordBytes (record { minus = false; size = k })
 unfolding lineOf spaced
-refused-parts position k = rw (append-nil (decimal k)) (sym (append-assoc (decimal position) (32 ∷ 82 ∷ []) (32 ∷ decimal k)))
+refused-parts position k =
+    rw (append-nil (decimal k)) (sym (append-assoc (decimal position) (32 ∷ 82 ∷ []) (32 ∷ decimal k)))
 
 -- ---- on lent bytes: what is said of a line that is known by its parts, of n bytes
 

@@ -1,10 +1,10 @@
 -- Runs of stores, one after another, and the bytes of numbers by them.
-use mathlib.Core.Path.{_≡_, refl, ap, _∙_}
+use mathlib.Core.Path.{_≡_, refl}
 use mathlib.Core.List.{List, [], _∷_, _++_}
 use Prim.Native.Nat.{ℕ, _+_, _/_, _%_, _^_, _≤_, _<_}
 use native.Mathlib.Omega.{arith}
 use lib.ListN.{length, set, length-append}
-use lib.Seq.{sets, length-sets}
+use lib.Seq.{length-sets}
 use Rattle.record.specs.Steps.{Put}
 use Rattle.record.proofs.Stores.{sets-append, sets-two}
 use Rattle.report.specs.Text.{decimal}

@@ -1,12 +1,12 @@
 -- Laws of numbers as text: how many digits, one digit more, and no digit is lost.
-use mathlib.Core.Path.{_≡_, refl, sym, ap, _∙_}
+use mathlib.Core.Path.{_≡_, refl, _∙_}
 use mathlib.Core.Bool.{Bool, true, false, cond}
 use mathlib.Core.List.{List, [], _∷_, _++_}
 use Prim.Native.Nat.{ℕ, zero, suc, _+_, _*_, _-_, _/_, _%_, _^_, _≤_, _<_}
 use native.Mathlib.Omega.{arith}
 use native.Mathlib.Nat.{pow-succ', le-refl}
 use borrow.Author.Tests.{lt-ltb, le-ltb}
-use lib.Dec.{T, ltb, ltb→lt, nltb→le}
+use lib.Dec.{T, ltb, ltb→lt}
 use lib.ListN.{length, length-append}
 use Rattle.report.specs.Text.{digitsBy, places, decimal, readDecimal}
 
@@ -57,11 +57,6 @@ unfolding decimal
 more-digits n least most =
     let room : 2 ^ 64 ≤ 10 ^ places = omega arith in
     step (places - 2) n least (omega arith)
-
--- a number has at least one digit
-pub decimal-least : (n : ℕ) → 1 ≤ length (decimal n)
-unfolding decimal digitsBy
-decimal-least n = omega (arith, length-append (cond (ltb n 10) [] (digitsBy (places - 1) (n / 10))) ((48 + n % 10) ∷ []))
 
 -- ---- no digit is lost
 

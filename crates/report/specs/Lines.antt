@@ -1,5 +1,5 @@
--- The line of an answer. Document 01, 'Records and doubles', on the program: "one line for each record (position from 1, E
--- and four ends in the order of the answer, or R and the number, single spaces)".
+-- The line of an answer. Document 01, 'Records and doubles', on the program: "one line for each record (position from 1,
+-- E and four ends in the order of the answer, or R and the number, single spaces)".
 use mathlib.Core.Bool.{cond}
 use mathlib.Core.List.{List, [], _∷_, _++_, map}
 use Prim.Native.Nat.{ℕ}

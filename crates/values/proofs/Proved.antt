@@ -152,16 +152,16 @@ all-hold k h = holds _ (every-at (λ k c. passes c) _ 0 values all-pass k h)
 -- in two parts, as one declaration may take so many steps and not more
 first-passes : T (passes (getD pairs 0 (fraction zeroQ zeroQ)))
 unfolding passes cutTo sound median sigma idrissMedian idrissSigma rowFor secondRowFor rowAt takesTable3 idrissRow
-    booreAtkinsonRow secondRowAt bnl site.nonlinearPart site.lowPart site.transition site.highPart site.c site.d site.x site.y alphaPart betaFactor F eval
-    lnPair lowerSum upperSum harmonic exactly _+p_ _-p_ _*p_ _/p_ span4 hull reachesUpTo reachesAbove branch minQ maxQ
-    leQ zeroQ negQ _+q_ _-q_ _*q_ _/q_ flip recipQ _over_
+    booreAtkinsonRow secondRowAt bnl site.nonlinearPart site.lowPart site.transition site.highPart site.c site.d
+    site.x site.y alphaPart betaFactor F eval lnPair lowerSum upperSum harmonic exactly _+p_ _-p_ _*p_ _/p_ span4
+    hull reachesUpTo reachesAbove branch minQ maxQ leQ zeroQ negQ _+q_ _-q_ _*q_ _/q_ flip recipQ _over_
 first-passes = tt
 
 later-pass : T (every (λ k c. passes c) 1 (drop 1 pairs))
 unfolding passes cutTo sound median sigma idrissMedian idrissSigma rowFor secondRowFor rowAt takesTable3 idrissRow
-    booreAtkinsonRow secondRowAt bnl site.nonlinearPart site.lowPart site.transition site.highPart site.c site.d site.x site.y alphaPart betaFactor F eval
-    lnPair lowerSum upperSum harmonic exactly _+p_ _-p_ _*p_ _/p_ span4 hull reachesUpTo reachesAbove branch minQ maxQ
-    leQ zeroQ negQ _+q_ _-q_ _*q_ _/q_ flip recipQ _over_
+    booreAtkinsonRow secondRowAt bnl site.nonlinearPart site.lowPart site.transition site.highPart site.c site.d
+    site.x site.y alphaPart betaFactor F eval lnPair lowerSum upperSum harmonic exactly _+p_ _-p_ _*p_ _/p_ span4
+    hull reachesUpTo reachesAbove branch minQ maxQ leQ zeroQ negQ _+q_ _-q_ _*q_ _/q_ flip recipQ _over_
 later-pass = tt
 
 pub pairs-hold : AllHold pairs

@@ -49,8 +49,8 @@ unfolding units median idrissMedian rowFor rowAt takesTable3 idrissRow alphaPart
 weak-most = tt
 
 -- the ends of the median are the first two values
-same-ends : {l h m n l' h' m' n' : ℤ} {values : List ℤ} → values ≡ l ∷ h ∷ m ∷ n ∷ [] → values ≡ l' ∷ h' ∷ m' ∷ n' ∷ [] →
-    (l ≡ l') × (h ≡ h')
+same-ends : {l h m n l' h' m' n' : ℤ} {values : List ℤ} → values ≡ l ∷ h ∷ m ∷ n ∷ [] →
+    values ≡ l' ∷ h' ∷ m' ∷ n' ∷ [] → (l ≡ l') × (h ≡ h')
 same-ends e f = (cc, cc)
 
 pub no-fixed-ends : NoFixedEnds

@@ -1,7 +1,7 @@
--- Pairs of the models' formulas at a small fineness, as the checker works them out; another program has computed the same
--- numbers from exact fractions. Document 01, 'What the numbers mean'.
+-- Pairs of the models' formulas at a small fineness, as the checker works them out; another program has computed the
+-- same numbers from exact fractions. Document 01, 'What the numbers mean'.
 use mathlib.Core.List.{List, [], _∷_}
-use lib.IntN.{ℤ, pos, negℤ}
+use lib.IntN.{pos}
 use Rattle.exact.specs.Fraction.{_over_}
 use Rattle.exact.specs.Formula.{stated}
 use Rattle.record.specs.Layout.{scenarioOf}

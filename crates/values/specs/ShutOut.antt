@@ -1,5 +1,5 @@
--- Fixed ends are shut out. Document 01, 'Checklist for the reviewer': "Fixed ends for every scenario: shut out by demand 3,
--- since medians differ by more than the width".
+-- Fixed ends are shut out. Document 01, 'Checklist for the reviewer': "Fixed ends for every scenario: shut out by demand
+-- 3, since medians differ by more than the width".
 use mathlib.Core.List.{[], _∷_}
 use Rattle.scenario.specs.declared.Scenario.{Scenario}
 use Rattle.scenario.specs.Refusal.{refusalOf}

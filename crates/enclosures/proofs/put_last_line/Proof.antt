@@ -25,14 +25,15 @@ after c =
     let l = c .before .before in
     let k = l .before .before .before in
     let a = k .args in
-    (place (lastLineOf (a .count)) (a .out .now) (a .at) (room c) (l .last-line .ensures .0) (l .last-line .ensures .1), k .good .0 .0)
+    let line = lastLineOf (a .count) in
+    (place line (a .out .now) (a .at) (room c) (l .last-line .ensures .0) (l .last-line .ensures .1), k .good .0 .0)
 
 within : tie.Need-slice-write-out
 within c =
     let l = c .before .before in
     let a = l .before .before .before .args in
-    let back =
-    length-back (lastLineOf (a .count)) (a .out .now) (a .at) (room c) (l .last-line .ensures .0) (l .last-line .ensures .1) in
+    let line = lastLineOf (a .count) in
+    let back = length-back line (a .out .now) (a .at) (room c) (l .last-line .ensures .0) (l .last-line .ensures .1) in
     omega (arith, after c, back)
 
 returns : tie.Need-returns

@@ -1,9 +1,9 @@
 -- `put_lines` meets its contract: a record that is read takes six bytes or more of those that are left.
-use mathlib.Core.Path.{_≡_, refl, sym, ap, _∙_}
-use Prim.Native.Nat.{ℕ, _+_, _-_, _≤_, _<_}
+use mathlib.Core.Path.{_≡_, refl, sym, _∙_}
+use Prim.Native.Nat.{_+_, _-_, _≤_}
 use native.Mathlib.Omega.{arith}
 use borrow.Author.Needs.{needs}
-use lib.ListN.{length, drop, length-drop}
+use lib.ListN.{length}
 use Rattle.record.proofs.Laws.{read-size}
 use Rattle.engine.specs.Evaluation.{answerOf}
 use Rattle.report.specs.Lines.{lineOf}
@@ -64,7 +64,9 @@ taken c =
     (size .0, omega (arith, size .1, whole, t .loop-test .taken))
 
 add-at : tie.Need-add-at Inv-loop μ-loop
-add-at c = record { fits = omega (arith, taken c, c .before .before .before .before .before .before .before .before .before .before .before .before .before .before .pre .1) }
+add-at c =
+    let l = c .before .before .before .before .before .before .before .before .before .before .before in
+    record { fits = omega (arith, taken c, l .before .before .before .pre .1) }
 
 loop-less : tie.Need-loop-less Inv-loop μ-loop
 loop-less c = omega (arith, taken c)
@@ -77,7 +79,8 @@ loop-again c =
     let t = r .before .before .before .before in
     let l = t .before .loop in
     let x = r .r .given .0 .0 in
-    let put : Added (ended (lineOf (l .count + 1) (answerOf x))) (l .next) (l .out) (p .put-line .result) (p .put-line .last .0) =
+    let line = ended (lineOf (l .count + 1) (answerOf x)) in
+    let put : Added line (l .next) (l .out) (p .put-line .result) (p .put-line .last .0) =
     rw (sym (a .answer-fields .ensures .0)) (p .put-line .ensures) in (
       read-step (l .inv .0) (t .loop-test .taken) x _ (sym (r .before .before .read .ensures .0) ∙ r .r .given .1) put,
       put .room ∙ l .inv .1,

@@ -3,9 +3,8 @@ use mathlib.Core.Path.{_∙_, sym}
 use Prim.Native.Nat.{_≤_}
 use native.Mathlib.Omega.{arith}
 use borrow.Author.Needs.{needs}
-use lib.ListN.{length, length-append}
+use lib.ListN.{length}
 use lib.Seq.{length-take-le}
-use Rattle.report.proofs.LineLaws.{last-line-most}
 use Rattle.enclosures.proofs.Steps.{last-place}
 use Rattle.enclosures.proofs.put_page.Statement.{statement}
 use Rattle.enclosures.proofs.put_page.Tie as tie

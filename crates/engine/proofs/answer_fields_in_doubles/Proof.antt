@@ -17,7 +17,8 @@ returns : tie.Need-returns
 unfolding answerOf
 returns c =
     let s = c .before .before .args .s in
-    doubles-answers s (refusalOf s) (λ e. e) (c .in-doubles .ensures ∙ ap inDoubles (c .before .answer-fields .ensures .0))
+    doubles-answers s (refusalOf s) (λ e. e)
+    (c .in-doubles .ensures ∙ ap inDoubles (c .before .answer-fields .ensures .0))
 
 pub answer-fields-in-doubles-spec : {M : Type 1} → statement M
 answer-fields-in-doubles-spec = tie.close (tie.spec (λ c κs. search needs) all-small returns)

@@ -1,7 +1,5 @@
 -- `by_idriss` meets its contract.
-use mathlib.Core.Path.{_≡_, refl, ap}
-use mathlib.Core.Logic.{inl, inr}
-use native.Mathlib.Omega.{arith}
+use mathlib.Core.Path.{refl}
 use borrow.Author.Needs.{needs}
 use Rattle.scenario.proofs.RefusalLaws.{within-idriss}
 use Rattle.scenario.proofs.RowLaws.{idriss-row}
@@ -29,7 +27,13 @@ returns c =
     let m = c .before in
     let r = m .before in
     let t = r .before in
-    rw (t .before .pre .0, c .sigma .ensures, m .median .ensures, r .idriss-row .ensures, t .takes-table-3 .ensures) refl
+    rw (
+      t .before .pre .0,
+      c .sigma .ensures,
+      m .median .ensures,
+      r .idriss-row .ensures,
+      t .takes-table-3 .ensures,
+    ) refl
 
 pub by-idriss-spec : {M : Type 1} → statement M
 by-idriss-spec =

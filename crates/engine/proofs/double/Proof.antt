@@ -13,7 +13,8 @@ use Rattle.engine.proofs.double.Tie as tie
 in-doubles : tie.Need-int-to-float-result
 in-doubles c =
     let a = c .before in
-    subst (λ (z : ℤ). T (inFloat binary64 z)) (sym (toZ-ofZ w64 (a .args .z) (a .fits .z))) (in-range (a .args .z) (a .pre))
+    subst (λ (z : ℤ). T (inFloat binary64 z)) (sym (toZ-ofZ w64 (a .args .z) (a .fits .z)))
+    (in-range (a .args .z) (a .pre))
 
 returns : tie.Need-returns
 returns c = ap doubleOf (toZ-ofZ w64 (c .before .args .z) (c .before .fits .z))

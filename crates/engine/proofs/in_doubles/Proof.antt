@@ -1,5 +1,5 @@
 -- `in_doubles` meets its contract.
-use mathlib.Core.Path.{subst, ap, refl, _∙_}
+use mathlib.Core.Path.{subst, ap, refl}
 use borrow.Author.Needs.{needs}
 use Rattle.engine.specs.declared.DoublesAnswer.the-variants as D
 use Rattle.engine.specs.Evaluation.{SmallAnswer, inDoubles}

@@ -24,8 +24,14 @@ room c =
     let p = c .before .before in
     let k = p .before .before .before in
     let put = p .put-decimal .ensures in
-    let h = next-fits (decimal (k .args .position)) (32 ∷ k .args .letter ∷ []) (rw (zero-add (length _)) (k .pre)) put in
+    let h =
+    next-fits (decimal (k .args .position)) (32 ∷ k .args .letter ∷ []) (rw (zero-add (length _)) (k .pre)) put in
     (omega (arith, h), omega (arith, h, put-length put, k .good .0 .0))
+
+letter-fits : tie.Need-slice-write-out-2
+letter-fits c =
+    let p = c .before .before .put-decimal in
+    omega (arith, room c, length-set (p .last .0) (p .result) 32)
 
 returns : tie.Need-returns
 returns c =
@@ -40,7 +46,7 @@ put-head-spec =
     position-fits
     (λ c. omega (arith, room c))
     (λ c. record { fits = omega (arith, room c) })
-    (λ c. omega (arith, room c, length-set (c .before .before .put-decimal .last .0) (c .before .before .put-decimal .result) 32))
+    letter-fits
     (λ c. record { fits = omega (arith, room c) })
     (λ c. search needs)
     returns)

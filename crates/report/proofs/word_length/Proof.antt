@@ -1,10 +1,6 @@
 -- `word_length` meets its contract.
-use mathlib.Core.Path.{ap}
 use native.Mathlib.Omega.{arith}
 use borrow.Author.Needs.{needs}
-use lib.ListN.{length, length-append}
-use Rattle.report.specs.Text.{decimal}
-use Rattle.report.specs.Steps.{signBytes}
 use Rattle.report.proofs.word_length.Statement.{statement}
 use Rattle.report.proofs.word_length.Tie as tie
 
