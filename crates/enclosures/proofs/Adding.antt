@@ -6,7 +6,7 @@ use native.Mathlib.Omega.{arith}
 use borrow.Author.Tests.{le-ltb}
 use borrow.Rule.Slice.PartMut.{putMid, same-len-mid}
 use lib.ListN.{length, set, take, drop, length-append, length-set, length-drop}
-use lib.Seq.{length-take-le, set-at, take-at, append-snoc}
+use lib.Seq.{length-take-le, take-all, set-at, take-at, append-snoc}
 use Rattle.report.specs.Lines.{lengthOn, bytesAfter}
 use Rattle.enclosures.specs.Output.{ended}
 use Rattle.enclosures.specs.Steps.{Added}
@@ -31,15 +31,18 @@ after-front p line d rest b k e =
 abbrev pub part : List ℕ → ℕ → List ℕ
 part before at = take (length before - at) (drop at before)
 
+-- which is what is left after it
+pub part-is : (before : List ℕ) (at : ℕ) → part before at ≡ drop at before
+part-is before at = take-all (length before - at) (drop at before) (omega (arith, length-drop at before))
+
+pub part-length : (before : List ℕ) (at : ℕ) → length (part before at) ≡ length before - at
+part-length before at = ap length (part-is before at) ∙ length-drop at before
+
 -- a line is put at the front of that part, which has room for it and a byte more
 module _ (line before : List ℕ) (at : ℕ) {n : ℕ} {put : List ℕ} (room : at + length line + 1 ≤ length before)
     (count : n ≡ lengthOn line (part before at)) (is : put ≡ bytesAfter line (part before at)) where
-  part-length : length (part before at) + at ≡ length before
-  part-length =
-      omega (arith, room, length-take-le (length before - at) (drop at before) (omega (arith, length-drop at before)))
-
   fits : length line ≤ length (part before at)
-  fits = omega (arith, room, part-length)
+  fits = omega (arith, room, part-length before at)
 
   long : n ≡ length line
   unfolding lengthOn
@@ -72,7 +75,7 @@ module _ (line before : List ℕ) (at : ℕ) {n : ℕ} {put : List ℕ} (room : 
           absurd (omega (
             arith,
             room,
-            part-length,
+            part-length before at,
             length-drop (length line) (part before at),
             ap length e,
           ))

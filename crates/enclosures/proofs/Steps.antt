@@ -4,7 +4,7 @@ use mathlib.Core.List.{List, [], _∷_, _++_, append-assoc}
 use Prim.Native.Nat.{ℕ, zero, suc, _+_, _-_, _≤_, _<_}
 use native.Mathlib.Omega.{arith}
 use lib.ListN.{length, take, drop, length-append, length-drop, drop-of-length-le}
-use lib.Seq.{take-all, drop-drop}
+use lib.Seq.{drop-drop}
 use Rattle.scenario.specs.declared.Scenario.{Scenario}
 use Rattle.record.specs.declared.Reading.the-variants.{Read, Refused}
 use Rattle.record.specs.Outcome.{readOf}
@@ -17,15 +17,8 @@ use Rattle.report.proofs.LineLaws.{line-most, last-line-most}
 use Rattle.enclosures.specs.declared.Printed.{Printed}
 use Rattle.enclosures.specs.Output.{ended, linesFrom, linesOf}
 use Rattle.enclosures.specs.Steps.{Added, Going, Gone}
-use Rattle.enclosures.proofs.Adding.{part}
+use Rattle.enclosures.proofs.Adding.{part, part-is}
 use Rattle.enclosures.proofs.OutputLaws.{none-left, one-read, one-refused}
-
--- the part from a place on is what is left after it
-pub part-is : (s : List ℕ) (at : ℕ) → part s at ≡ drop at s
-part-is s at = take-all (length s - at) (drop at s) (omega (arith, length-drop at s))
-
-pub part-length : (s : List ℕ) (at : ℕ) → length (part s at) ≡ length s - at
-part-length s at = ap length (part-is s at) ∙ length-drop at s
 
 pub start : (s out : List ℕ) → Going s out 0 0 0
 unfolding linesOf

@@ -1,11 +1,10 @@
 -- The line of an answer in the parts that the code puts, and what is left of the lent bytes.
 use mathlib.Core.Path.{_≡_, refl, sym, ap, _∙_}
-use mathlib.Core.Bool.{Bool, true, false, not, cond}
+use mathlib.Core.Bool.{Bool, true, false, cond}
 use mathlib.Core.List.{List, [], _∷_, _++_, append-assoc, append-nil}
 use Prim.Native.Nat.{ℕ, _+_, _≤_, _<_}
 use native.Mathlib.Omega.{arith}
 use borrow.Author.Tests.{lt-ltb, le-ltb}
-use lib.Dec.{T, ltb, nltb→le}
 use lib.IntN.{ℤ, pos, natAbs}
 use lib.ListN.{length, length-append}
 use lib.Signed.{ltZ}
@@ -77,14 +76,6 @@ module _ (line parts lent : List ℕ) (is : line ≡ parts) {n : ℕ} (size : n 
       (rw (is, long) size, rw (is, long, p .bytes) (sets-front lent parts room))
 
 -- ---- sizes
-
-pub length-most : (line lent : List ℕ) {n : ℕ} → n ≡ lengthOn line lent → n ≤ length lent
-unfolding lengthOn
-length-most line lent {n} e = go (ltb (length lent) (length line)) (nltb→le (length lent) (length line)) e
-  where
-    go : (b : Bool) → (T (not b) → length line ≤ length lent) → n ≡ cond b 0 (length line) → n ≤ length lent
-    go true h e = omega arith
-    go false h e = omega (arith, h tt)
 
 word-most : (w : Word) → length (wordBytes w) ≤ 22
 word-most w = go (w .minus)

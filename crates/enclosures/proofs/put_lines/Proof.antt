@@ -9,7 +9,8 @@ use Rattle.engine.specs.Evaluation.{answerOf}
 use Rattle.report.specs.Lines.{lineOf}
 use Rattle.enclosures.specs.Output.{ended}
 use Rattle.enclosures.specs.Steps.{Added, Going}
-use Rattle.enclosures.proofs.Steps.{start, part-length, read-step, refused-step, end-step, has-room}
+use Rattle.enclosures.proofs.Adding.{part-length}
+use Rattle.enclosures.proofs.Steps.{start, read-step, refused-step, end-step, has-room}
 use Rattle.enclosures.proofs.put_lines.Statement.{statement}
 use Rattle.enclosures.proofs.put_lines.Tie as tie
 

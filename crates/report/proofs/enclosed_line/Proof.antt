@@ -38,18 +38,34 @@ size position m s a b c =
       length-append (headBytes position 69 ++ bothBytes m) (bothBytes s),
     )
 
+-- what has been counted is their length, and they are the line
+counted : (w : tie.After-words-length2) →
+    let d = w .before .before in
+    let m = d .before .before in
+    d .decimal-length .result + 2 + w .before .words-length .result + w .words-length2 .result
+    ≡ length (parts (m .before .before .args .position) (m .split-ends .result) (d .before .split-ends2 .result))
+counted w =
+    let d = w .before .before in
+    let m = d .before .before in
+    size (m .before .before .args .position) (m .split-ends .result) (d .before .split-ends2 .result)
+    (d .decimal-length .ensures .0) (w .before .words-length .ensures .0) (w .words-length2 .ensures .0)
+
+is-line : (w : tie.After-words-length2) →
+    let s = w .before .before .before in
+    let a = s .before .before .before .args in
+    lineOf (a .position) (A.Enclosed (a .e))
+    ≡ parts (a .position) (s .before .split-ends .result) (s .split-ends2 .result)
+is-line w =
+    let s = w .before .before .before in
+    let a = s .before .before .before .args in
+    split-parts (a .position) (a .e) (s .before .split-ends .ensures) (s .split-ends2 .ensures)
+
 short : tie.Need-returns
 short c =
     let w = c .before in
-    let d = w .before .before in
-    let s = d .before in
-    let m = s .before in
-    let a = m .before .before .args in
-    let n =
-    size (a .position) (m .split-ends .result) (s .split-ends2 .result) (d .decimal-length .ensures .0)
-    (w .before .words-length .ensures .0) (w .words-length2 .ensures .0) in
-    too-short (lineOf (a .position) (A.Enclosed (a .e))) _ (a .out .now)
-    (split-parts (a .position) (a .e) (m .split-ends .ensures) (s .split-ends2 .ensures)) n (omega (arith, c .if1 .taken))
+    let a = w .before .before .before .before .before .before .args in
+    too-short (lineOf (a .position) (A.Enclosed (a .e))) _ (a .out .now) (is-line w) (counted w)
+    (omega (arith, c .if1 .taken))
 
 -- where it is not too short, there is room for all parts
 room : (c : tie.Else1) →
@@ -59,15 +75,9 @@ room : (c : tie.Else1) →
     0 + length (parts (a .position) (m .split-ends .result) (s .split-ends2 .result)) ≤ length (a .out .now)
 room c =
     let w = c .before in
-    let d = w .before .before in
-    let s = d .before in
-    let m = s .before in
-    let a = m .before .before .args in
-    let n =
-    size (a .position) (m .split-ends .result) (s .split-ends2 .result) (d .decimal-length .ensures .0)
-    (w .before .words-length .ensures .0) (w .words-length2 .ensures .0) in
-    has-room (lineOf (a .position) (A.Enclosed (a .e))) _ (a .out .now)
-    (split-parts (a .position) (a .e) (m .split-ends .ensures) (s .split-ends2 .ensures)) n (omega (arith, c .if1 .left))
+    let a = w .before .before .before .before .before .before .args in
+    has-room (lineOf (a .position) (A.Enclosed (a .e))) _ (a .out .now) (is-line w) (counted w)
+    (omega (arith, c .if1 .left))
 
 -- and so for the first two
 front : (c : tie.Else1) →
@@ -113,15 +123,9 @@ returns c =
     let p = q .before .before .before .before in
     let e = p .before .before in
     let w = e .before in
-    let d = w .before .before in
-    let s = d .before in
-    let m = s .before in
-    let a = m .before .before .args in
-    let n =
-    size (a .position) (m .split-ends .result) (s .split-ends2 .result) (d .decimal-length .ensures .0)
-    (w .before .words-length .ensures .0) (w .words-length2 .ensures .0) in
-    written (lineOf (a .position) (A.Enclosed (a .e))) _ (a .out .now)
-    (split-parts (a .position) (a .e) (m .split-ends .ensures) (s .split-ends2 .ensures)) n (omega (arith, e .if1 .left))
+    let a = w .before .before .before .before .before .before .args in
+    written (lineOf (a .position) (A.Enclosed (a .e))) _ (a .out .now) (is-line w) (counted w)
+    (omega (arith, e .if1 .left))
     (put-then (put-then (p .put-head .ensures) (q .put-words .ensures)) (r .put-words2 .ensures))
 
 pub enclosed-line-spec : {M : Type 1} → statement M

@@ -30,12 +30,19 @@ size position k a b =
       length-append (headBytes position 82) (number k),
     )
 
+counted : (w : tie.After-word-length) →
+    let a = w .before .before .before .args in
+    w .before .decimal-length .result + 2 + w .word-length .result
+    ≡ length (headBytes (a .position) 82 ++ number (a .k))
+counted w =
+    let a = w .before .before .before .args in
+    size (a .position) (a .k) (w .before .decimal-length .ensures .0) (w .word-length .ensures .0)
+
 short : tie.Need-returns
 short c =
     let w = c .before in
     let a = w .before .before .before .args in
-    let n = size (a .position) (a .k) (w .before .decimal-length .ensures .0) (w .word-length .ensures .0) in
-    too-short (lineOf (a .position) (A.Refused (a .k))) _ (a .out .now) (refused-parts (a .position) (a .k)) n
+    too-short (lineOf (a .position) (A.Refused (a .k))) _ (a .out .now) (refused-parts (a .position) (a .k)) (counted w)
     (omega (arith, c .if1 .taken))
 
 -- where it is not too short, there is room for both parts
@@ -45,8 +52,7 @@ room : (c : tie.Else1) →
 room c =
     let w = c .before in
     let a = w .before .before .before .args in
-    let n = size (a .position) (a .k) (w .before .decimal-length .ensures .0) (w .word-length .ensures .0) in
-    has-room (lineOf (a .position) (A.Refused (a .k))) _ (a .out .now) (refused-parts (a .position) (a .k)) n
+    has-room (lineOf (a .position) (A.Refused (a .k))) _ (a .out .now) (refused-parts (a .position) (a .k)) (counted w)
     (omega (arith, c .if1 .left))
 
 head-fits : tie.Need-put-head-requires
@@ -69,8 +75,7 @@ returns c =
     let e = p .before .before in
     let w = e .before in
     let a = w .before .before .before .args in
-    let n = size (a .position) (a .k) (w .before .decimal-length .ensures .0) (w .word-length .ensures .0) in
-    written (lineOf (a .position) (A.Refused (a .k))) _ (a .out .now) (refused-parts (a .position) (a .k)) n
+    written (lineOf (a .position) (A.Refused (a .k))) _ (a .out .now) (refused-parts (a .position) (a .k)) (counted w)
     (omega (arith, e .if1 .left)) (put-then (p .put-head .ensures) (q .put-word .ensures))
 
 pub refused-line-spec : {M : Type 1} → statement M
