@@ -9,6 +9,8 @@ CC := gcc
 PROBE := target/tests/probe
 PROGRAM := target/bin/enclosures
 SAMPLE := tests/streams/sample
+# rt keeps what it has proved in target, so that two of it at a time would disturb each other there.
+ALONE := flock target/tests/lock
 
 .PHONY: run test longer definitions outside test_logarithm test_records test_models test_answers test_enclosures probe program need
 .SILENT:
@@ -47,7 +49,7 @@ test_enclosures: program
 probe: need
 	mkdir -p target/tests
 	for library in probe record_probe model_probe engine_probe; do \
-	    rt staticlib $$library > target/tests/$$library.log 2>&1 || { cat target/tests/$$library.log; exit 1; }; \
+	    $(ALONE) rt staticlib $$library > target/tests/$$library.log 2>&1 || { cat target/tests/$$library.log; exit 1; }; \
 	done
 	$(CC) -O2 -Wall -Wextra -Werror -std=c99 -o $(PROBE) tests/probe.c \
 	    target/staticlib/libprobe.a target/staticlib/librecord_probe.a target/staticlib/libmodel_probe.a \
@@ -56,7 +58,7 @@ probe: need
 # The program, proved.
 program: need
 	mkdir -p target/tests
-	rt check enclosures > target/tests/enclosures.log 2>&1 || { cat target/tests/enclosures.log; exit 1; }
+	$(ALONE) rt check enclosures > target/tests/enclosures.log 2>&1 || { cat target/tests/enclosures.log; exit 1; }
 
 need:
 	tools/need
