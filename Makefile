@@ -9,6 +9,7 @@ CC := gcc
 PROBE := target/tests/probe
 PROGRAM := target/bin/enclosures
 SAMPLE := tests/streams/sample
+LIB := target/lib
 # rt keeps what it has proved in target, so that two of it at a time would disturb each other there.
 ALONE := flock target/tests/lock
 
@@ -44,6 +45,14 @@ test_logarithm test_records test_models test_answers: test_%: probe
 
 test_enclosures: program
 	python3 tests/$@.py $(PROGRAM)
+
+# The library for hosts: static and shared, and its header.
+lib: need
+	mkdir -p target/tests $(LIB)
+	$(ALONE) rt staticlib host > target/tests/host.log 2>&1 || { cat target/tests/host.log; exit 1; }
+	cp target/staticlib/libhost.a $(LIB)/libfusnoch.a
+	$(CC) -shared -o $(LIB)/libfusnoch.so -Wl,--whole-archive $(LIB)/libfusnoch.a -Wl,--no-whole-archive
+	tools/header crates/host/src/lib.rt > $(LIB)/fusnoch.h
 
 # A program over the proved libraries, for the tests.
 probe: need

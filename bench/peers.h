@@ -1,0 +1,22 @@
+/* The peers that the engine is compared with.  Each goes from the whole-number fields of an accepted scenario to the
+   natural logarithm of the median and to sigma, by both models; none of them checks the fields. */
+
+#ifndef PEERS_H
+#define PEERS_H
+
+#include <arb.h>
+
+#include "fusnoch.h"
+
+typedef struct {
+    double median, sigma;
+} plain_answer;
+
+/* Plain C: doubles, with nothing said about their errors. */
+plain_answer answer_in_plain_c(fusnoch_scenario s);
+
+/* Arb: balls that enclose the value.  The coefficients and the constants are made ready once, by ready_arb. */
+void ready_arb(void);
+void answer_in_arb(arb_t median, arb_t sigma, fusnoch_scenario s);
+
+#endif

@@ -1,0 +1,41 @@
+-- `tell` meets its contract.
+use mathlib.Core.Path.{_≡_, refl, subst}
+use Prim.Native.Nat.{_^_, _<_}
+use native.Mathlib.Omega.{arith}
+use borrow.Author.Needs.{needs}
+use lib.IntN.{ℤ}
+use lib.Signed.{mag}
+use mir.Syntax.{w64}
+use mir.Val.{toZ, ofZ}
+use Rattle.signed.proofs.Laws.{back}
+use Rattle.engine.specs.declared.Enclosure.{Enclosure}
+use Rattle.engine.specs.declared.Answer.the-variants as A
+use Rattle.engine.specs.Evaluation.{SmallAnswer}
+use Rattle.host.specs.Told.{told}
+use Rattle.host.proofs.tell.Statement.{statement}
+use Rattle.host.proofs.tell.Tie as tie
+
+-- an end, read back from its bits
+end : (z : ℤ) → mag z < 2 ^ 53 → toZ w64 (ofZ w64 z) ≡ z
+end z h = back z (omega (arith, h))
+
+is-told : (e : Enclosure) {a b c d : ℤ} → a ≡ e .median .low → b ≡ e .median .high → c ≡ e .sigma .low →
+    d ≡ e .sigma .high →
+    record { number = 0; «median_low» = a; «median_high» = b; «sigma_low» = c; «sigma_high» = d }
+    ≡ told (A.Enclosed e)
+is-told e p q r s = rw (p, q, r, s) refl
+
+enclosed : tie.Need-returns
+enclosed c =
+    let a = c .before .before in
+    let e = a .a .given .0 .0 in
+    let h = subst SmallAnswer (a .a .given .1) (a .before .before .pre) in
+    rw (a .a .given .1)
+    (is-told e (end (e .median .low) (h .median .low)) (end (e .median .high) (h .median .high))
+    (end (e .sigma .low) (h .sigma .low)) (end (e .sigma .high) (h .sigma .high)))
+
+refused : tie.Need-returns-2
+refused c = rw (c .before .a2 .given .1) refl
+
+pub tell-spec : {M : Type 1} → statement M
+tell-spec = tie.close (tie.spec (λ c. search needs) (λ c. search needs) enclosed refused)

@@ -1,0 +1,92 @@
+-- What C is told: the host's plain structs for the engine's scenario, answers, readings and writings. An enum does not
+-- pass, so a refused one is the number with zeros, and an accepted one has the number 0.
+use lib.IntN.{pos}
+use lib.Ieee.{Float, binary64, ofBits}
+use Rattle.scenario.specs.declared.Scenario.{Scenario}
+use Rattle.record.specs.declared.Reading.{Reading}
+use Rattle.record.specs.declared.Reading.the-variants as R
+use Rattle.record.specs.declared.Writing.{Writing}
+use Rattle.record.specs.declared.Writing.the-variants as W
+use Rattle.engine.specs.declared.Answer.{Answer}
+use Rattle.engine.specs.declared.Answer.the-variants as A
+use Rattle.engine.specs.declared.DoublesAnswer.{DoublesAnswer}
+use Rattle.engine.specs.declared.DoublesAnswer.the-variants as D
+use Rattle.host.specs.declared.HostScenario.{HostScenario}
+use Rattle.host.specs.declared.HostAnswer.{HostAnswer}
+use Rattle.host.specs.declared.HostDoubles.{HostDoubles}
+use Rattle.host.specs.declared.HostReading.{HostReading}
+use Rattle.host.specs.declared.HostWriting.{HostWriting}
+
+-- document 01, 'The scenario'
+abbrev pub scenarioFrom : HostScenario → Scenario
+scenarioFrom s =
+    record {
+      model = s .model;
+      magnitude = s .magnitude;
+      distance = s .distance;
+      velocity = s .velocity;
+      mechanism = s .mechanism;
+      period = s .period;
+    }
+
+abbrev fieldsOf : Scenario → HostScenario
+fieldsOf x =
+    record {
+      model = x .model;
+      magnitude = x .magnitude;
+      distance = x .distance;
+      velocity = x .velocity;
+      mechanism = x .mechanism;
+      period = x .period;
+    }
+
+abbrev noFields : HostScenario
+noFields = record { model = 0; magnitude = 0; distance = 0; velocity = 0; mechanism = 0; period = 0 }
+
+-- "An answer has four signed whole numbers of units"; "A refusal returns its number only"
+abbrev pub told : Answer → HostAnswer
+told (A.Enclosed e) = record {
+  number = 0;
+  «median_low» = e .median .low;
+  «median_high» = e .median .high;
+  «sigma_low» = e .sigma .low;
+  «sigma_high» = e .sigma .high;
+}
+told (A.Refused k) = record {
+  number = k;
+  «median_low» = pos 0;
+  «median_high» = pos 0;
+  «sigma_low» = pos 0;
+  «sigma_high» = pos 0;
+}
+
+-- the double 0, whose bits are all 0
+abbrev pub zeroDouble : Float
+zeroDouble = ofBits binary64 0
+
+-- "either all four ends as doubles, or the refusal number"
+abbrev pub toldDoubles : DoublesAnswer → HostDoubles
+toldDoubles (D.Enclosed d) = record {
+  number = 0;
+  «median_low» = d .«median_low»;
+  «median_high» = d .«median_high»;
+  «sigma_low» = d .«sigma_low»;
+  «sigma_high» = d .«sigma_high»;
+}
+toldDoubles (D.Refused k) = record {
+  number = k;
+  «median_low» = zeroDouble;
+  «median_high» = zeroDouble;
+  «sigma_low» = zeroDouble;
+  «sigma_high» = zeroDouble;
+}
+
+-- "Reading hands back the scenario and the rest of the caller's bytes": the rest begins at the record's length
+abbrev pub toldReading : Reading → HostReading
+toldReading (R.Read x n) = record { number = 0; scenario = fieldsOf x; length = n }
+toldReading (R.Refused k) = record { number = k; scenario = noFields; length = 0 }
+
+-- "it returns the record's length"
+abbrev pub toldWriting : Writing → HostWriting
+toldWriting (W.Length n) = record { number = 0; length = n }
+toldWriting (W.Refused k) = record { number = k; length = 0 }

@@ -1,0 +1,212 @@
+// The engine's functions as C calls them: plain structs, numbers and bytes in, plain structs and numbers out.
+ghost use mathlib.Core.Path.{_≡_};
+ghost use Rattle.scenario.specs.Refusal.{refusalOf};
+ghost use Rattle.record.specs.Outcome.{scenarioIn, readRefusal, readOf, writeOf, lentAfter};
+ghost use Rattle.engine.specs.Evaluation.{answerOf, recordAnswerOf, SmallAnswer, inDoubles};
+ghost use Rattle.host.specs.Told.{scenarioFrom, told, toldDoubles, toldReading, toldWriting};
+ghost use Rattle.host.specs.Promise.{AnswerPromise, DoublesPromise};
+use engine::Answer;
+use engine::DoublesAnswer;
+use record::Reading;
+use record::Writing;
+use scenario::Scenario;
+
+// The fields of a scenario, whole numbers: magnitude in 0.01, distance in 0.01 km (to the rupture for model 1, Idriss
+// 2014; to its surface projection for model 2, Boore and Atkinson 2008), velocity V_S30 in 0.1 m/s, period in 0.001 s
+// (0 is peak acceleration). Mechanism: 0 strike-slip, 1 normal, 2 reverse, 3 reverse oblique, 4 other oblique,
+// 9 unspecified.
+#[repr(C)]
+pub struct HostScenario {
+    pub model: u8,
+    pub magnitude: u16,
+    pub distance: u16,
+    pub velocity: u16,
+    pub mechanism: u8,
+    pub period: u16,
+}
+
+// An answer: number 0 and the low and high ends of the median and of sigma, natural logarithms in units of 10^-9; or
+// the number of the refusal, and zeros for the ends.
+#[repr(C)]
+pub struct HostAnswer {
+    pub number: u8,
+    pub median_low: i64,
+    pub median_high: i64,
+    pub sigma_low: i64,
+    pub sigma_high: i64,
+}
+
+// The same with the ends as doubles that equal the whole numbers, still in units of 10^-9.
+#[repr(C)]
+pub struct HostDoubles {
+    pub number: u8,
+    pub median_low: f64,
+    pub median_high: f64,
+    pub sigma_low: f64,
+    pub sigma_high: f64,
+}
+
+// What is read: number 0, the scenario and how many bytes its record has (the rest of the bytes comes after them); or
+// the number of the refusal, and zeros.
+#[repr(C)]
+pub struct HostReading {
+    pub number: u8,
+    pub scenario: HostScenario,
+    pub length: usize,
+}
+
+// What writing comes to: number 0 and how many bytes the record has; or the number of the refusal, and 0.
+#[repr(C)]
+pub struct HostWriting {
+    pub number: u8,
+    pub length: usize,
+}
+
+fn scenario_from(s: HostScenario) -> Scenario
+    ensures { λ r. ⌜ r ≡ scenarioFrom s ⌝ }
+{
+    Scenario {
+        model: s.model,
+        magnitude: s.magnitude,
+        distance: s.distance,
+        velocity: s.velocity,
+        mechanism: s.mechanism,
+        period: s.period,
+    }
+}
+
+fn tell(a: Answer) -> HostAnswer
+    requires { ⌜ SmallAnswer a ⌝ }
+    ensures { λ r. ⌜ r ≡ told a ⌝ }
+{
+    match a {
+        Answer::Enclosed(e) => HostAnswer {
+            number: 0,
+            median_low: e.median.low,
+            median_high: e.median.high,
+            sigma_low: e.sigma.low,
+            sigma_high: e.sigma.high,
+        },
+        Answer::Refused(number) => HostAnswer {
+            number,
+            median_low: 0,
+            median_high: 0,
+            sigma_low: 0,
+            sigma_high: 0,
+        },
+    }
+}
+
+fn tell_doubles(a: DoublesAnswer) -> HostDoubles
+    ensures { λ r. ⌜ r ≡ toldDoubles a ⌝ }
+{
+    match a {
+        DoublesAnswer::Enclosed(d) => HostDoubles {
+            number: 0,
+            median_low: d.median_low,
+            median_high: d.median_high,
+            sigma_low: d.sigma_low,
+            sigma_high: d.sigma_high,
+        },
+        DoublesAnswer::Refused(number) => HostDoubles {
+            number,
+            median_low: 0.0,
+            median_high: 0.0,
+            sigma_low: 0.0,
+            sigma_high: 0.0,
+        },
+    }
+}
+
+// The number of the first check that turns the scenario away, 0 where none does.
+#[no_mangle]
+pub extern "C" fn fusnoch_refusal(s: HostScenario) -> u8
+    ensures { λ r. ⌜ r ≡ refusalOf (scenarioFrom s) ⌝ }
+{
+    scenario::refusal(scenario_from(s))
+}
+
+// Answers a scenario of any fields: by Idriss 2014 the median's ends enclose its exact logarithm at most 100 units
+// apart, sigma's at most 10; by Boore and Atkinson 2008 at most 2,000 apart, and sigma's are equal.
+#[no_mangle]
+pub extern "C" fn fusnoch_answer_fields(s: HostScenario) -> HostAnswer
+    ensures { λ r. ⌜ r ≡ told (answerOf (scenarioFrom s)) ⌝ }
+    ensures { λ r. ⌜ AnswerPromise (refusalOf (scenarioFrom s)) (scenarioFrom s) r ⌝ }
+{
+    tell(engine::answer_fields(scenario_from(s)))
+}
+
+// Answers the record at the front of any bytes in the same way, or with the number with which reading turns it away.
+#[no_mangle]
+pub extern "C" fn fusnoch_answer_record(bytes: &[u8]) -> HostAnswer
+    ensures { λ r. ⌜ r ≡ told (recordAnswerOf (now (bytes .entry))) ⌝ }
+    ensures { λ r. ⌜ AnswerPromise (readRefusal (now (bytes .entry))) (scenarioIn (now (bytes .entry))) r ⌝ }
+{
+    tell(engine::answer_record(bytes))
+}
+
+// Answers a scenario of any fields in doubles, each equal to its whole number.
+#[no_mangle]
+pub extern "C" fn fusnoch_answer_fields_in_doubles(s: HostScenario) -> HostDoubles
+    ensures { λ r. ⌜ r ≡ toldDoubles (inDoubles (answerOf (scenarioFrom s))) ⌝ }
+    ensures { λ r. ⌜ DoublesPromise (refusalOf (scenarioFrom s)) (scenarioFrom s)
+        (told (answerOf (scenarioFrom s))) r ⌝ }
+{
+    tell_doubles(engine::answer_fields_in_doubles(scenario_from(s)))
+}
+
+// Answers the record at the front of any bytes in doubles, each equal to its whole number.
+#[no_mangle]
+pub extern "C" fn fusnoch_answer_record_in_doubles(bytes: &[u8]) -> HostDoubles
+    ensures { λ r. ⌜ r ≡ toldDoubles (inDoubles (recordAnswerOf (now (bytes .entry)))) ⌝ }
+    ensures { λ r. ⌜ DoublesPromise (readRefusal (now (bytes .entry))) (scenarioIn (now (bytes .entry)))
+        (told (recordAnswerOf (now (bytes .entry)))) r ⌝ }
+{
+    tell_doubles(engine::answer_record_in_doubles(bytes))
+}
+
+// Reads the record at the front of any bytes.
+#[no_mangle]
+pub extern "C" fn fusnoch_read(bytes: &[u8]) -> HostReading
+    ensures { λ r. ⌜ r ≡ toldReading (readOf (now (bytes .entry))) ⌝ }
+{
+    match record::read(bytes) {
+        Reading::Read(x, length) => HostReading {
+            number: 0,
+            scenario: HostScenario {
+                model: x.model,
+                magnitude: x.magnitude,
+                distance: x.distance,
+                velocity: x.velocity,
+                mechanism: x.mechanism,
+                period: x.period,
+            },
+            length,
+        },
+        Reading::Refused(number) => HostReading {
+            number,
+            scenario: HostScenario {
+                model: 0,
+                magnitude: 0,
+                distance: 0,
+                velocity: 0,
+                mechanism: 0,
+                period: 0,
+            },
+            length: 0,
+        },
+    }
+}
+
+// Writes the record of a scenario to the front of the lent bytes and leaves all later bytes; with a refusal it leaves
+// all of them.
+#[no_mangle]
+pub extern "C" fn fusnoch_write(s: HostScenario, out: &mut [u8]) -> HostWriting
+    ensures { λ r. ⌜ r ≡ toldWriting (writeOf (scenarioFrom s) (now (out .entry))) ⌝ }
+    ensures { λ _. ⌜ now (out .exit) ≡ lentAfter (scenarioFrom s) (now (out .entry)) ⌝ }
+{
+    match record::write(scenario_from(s), out) {
+        Writing::Length(length) => HostWriting { number: 0, length },
+        Writing::Refused(number) => HostWriting { number, length: 0 },
+    }
+}

@@ -1,0 +1,69 @@
+/* Prints the spectrum of one earthquake by both models side by side: a vertical strike-slip fault that is ruptured from
+   3 km down, at a site 10 km beside it, so that the rupture is 10.44 km away. */
+#include <inttypes.h>
+#include <math.h>
+#include <stdio.h>
+
+#include "ground_motion.h"
+
+/* Each model has its own distance: to the rupture, and to its surface projection. */
+static const fusnoch_scenario IDRISS = {
+    .model = GROUND_MOTION_IDRISS, .magnitude = 700, .distance = 1044, .velocity = 7600,
+    .mechanism = GROUND_MOTION_STRIKE_SLIP};
+static const fusnoch_scenario BOORE_ATKINSON = {
+    .model = GROUND_MOTION_BOORE_ATKINSON, .magnitude = 700, .distance = 1000, .velocity = 7600,
+    .mechanism = GROUND_MOTION_STRIKE_SLIP};
+
+/* In 0.001 s; 0 is peak acceleration. */
+static const uint16_t PERIODS[] = {0,   10,  20,  30,  40,   50,   75,   100,  150,  200,  250,  300,
+                                   400, 500, 750, 1000, 1500, 2000, 3000, 4000, 5000, 7500, 10000};
+
+enum { CELL = 58, LONGEST = 128 };
+
+/* The part of one model in a line: ends, or the refusal. */
+static void fill(char cell[LONGEST], fusnoch_scenario scenario, uint16_t period)
+{
+    fusnoch_answer a;
+    fusnoch_doubles d;
+
+    scenario.period = period;
+    a = fusnoch_answer_fields(scenario);
+    d = fusnoch_answer_fields_in_doubles(scenario);
+    if (a.number != 0)
+        snprintf(cell, LONGEST, "refusal %u, %s", a.number, ground_motion_words(a.number));
+    else
+        snprintf(cell, LONGEST, "%12" PRId64 " %12" PRId64 " %#10.4g %10" PRId64 " %10" PRId64, a.median_low,
+                 a.median_high, exp((d.median_low + d.median_high) / 2e9), a.sigma_low, a.sigma_high);
+}
+
+static void print_heading(void)
+{
+    fusnoch_scenario i = IDRISS, b = BOORE_ATKINSON;
+    char columns[LONGEST];
+
+    printf("Spectrum, 5 percent damped: M %u.%02u, strike-slip, V_S30 %u.%u m/s\n", i.magnitude / 100,
+           i.magnitude % 100, i.velocity / 10, i.velocity % 10);
+    printf("Idriss 2014 at %u.%02u km from the rupture, Boore and Atkinson 2008 at %u.%02u km from its surface "
+           "projection\n", i.distance / 100, i.distance % 100, b.distance / 100, b.distance % 100);
+    puts("median, sigma: ends in units of 10^-9; they enclose the natural logarithm of the median in g, and sigma");
+    puts("g, rounded: exp of the middle of the median's ends, to four digits, for reading; it is not enclosed\n");
+    printf("%8s | %-*s | %s\n", "", CELL, "Idriss 2014", "Boore and Atkinson 2008");
+    snprintf(columns, LONGEST, "%12s %12s %10s %10s %10s", "median low", "median high", "g, rounded", "sigma low",
+             "sigma high");
+    printf("%8s | %s | %s\n", "period s", columns, columns);
+}
+
+int main(void)
+{
+    char name[LONGEST] = "PGA", idriss[LONGEST], boore_atkinson[LONGEST];
+
+    print_heading();
+    for (size_t i = 0; i < sizeof PERIODS / sizeof *PERIODS; i++) {
+        if (PERIODS[i] != 0)
+            snprintf(name, LONGEST, "%u.%03u", PERIODS[i] / 1000, PERIODS[i] % 1000);
+        fill(idriss, IDRISS, PERIODS[i]);
+        fill(boore_atkinson, BOORE_ATKINSON, PERIODS[i]);
+        printf("%8s | %-*s | %s\n", name, CELL, idriss, boore_atkinson);
+    }
+    return 0;
+}

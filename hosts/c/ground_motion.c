@@ -1,0 +1,52 @@
+/* The safe way to fusnoch.h, see ground_motion.h. */
+#include "ground_motion.h"
+
+static const char *const WORDS[] = {
+    "not a refusal",
+    "model: neither 1 nor 2",
+    "magnitude: beyond the model's limits",
+    "distance: beyond the model's limits",
+    "velocity: beyond the model's limits",
+    "mechanism: not a code of the model",
+    "period: neither 0 nor tabled for the model",
+    "cut short: no map byte, or fewer bytes than the map calls for",
+    "spare bit: bit 6 or 7 stands",
+    "wanting: bit 0, 1 or 2 is clear",
+    "blank: no bit stands",
+    "plain default: a field written with its absent number",
+    "page full: lent bytes shorter than the record"};
+
+const char *ground_motion_words(uint8_t number)
+{
+    return WORDS[number < sizeof WORDS / sizeof *WORDS ? number : 0];
+}
+
+/* A null pointer counts as no bytes. */
+static size_t present(const uint8_t *bytes, size_t length)
+{
+    return bytes ? length : 0;
+}
+
+fusnoch_answer ground_motion_answer_record(const uint8_t *bytes, size_t length)
+{
+    return fusnoch_answer_record(bytes, present(bytes, length));
+}
+
+fusnoch_doubles ground_motion_answer_record_in_doubles(const uint8_t *bytes, size_t length)
+{
+    return fusnoch_answer_record_in_doubles(bytes, present(bytes, length));
+}
+
+ground_motion_reading ground_motion_read(const uint8_t *bytes, size_t length)
+{
+    fusnoch_reading r = fusnoch_read(bytes, present(bytes, length));
+
+    if (r.number != 0)
+        return (ground_motion_reading){.number = r.number};
+    return (ground_motion_reading){0, r.scenario, bytes + r.length, length - r.length};
+}
+
+fusnoch_writing ground_motion_write(fusnoch_scenario scenario, uint8_t *lent, size_t length)
+{
+    return fusnoch_write(scenario, lent, present(lent, length));
+}

@@ -1,0 +1,41 @@
+/* Ground motion with proved ends, for programs in C: the safe way to the functions of fusnoch.h that take a pointer, and
+   the words of the refusals.  fusnoch_refusal, fusnoch_answer_fields and fusnoch_answer_fields_in_doubles take no
+   pointer and are called as they are.
+
+   The number of a result is 0, or that of the refusal; a refused result has zeros for all else.  A null pointer counts
+   as no bytes, whatever the length. */
+#ifndef GROUND_MOTION_H
+#define GROUND_MOTION_H
+
+#include "fusnoch.h"
+
+/* The codes of a scenario's model and mechanism. */
+enum { GROUND_MOTION_IDRISS = 1, GROUND_MOTION_BOORE_ATKINSON = 2 };
+enum {
+    GROUND_MOTION_STRIKE_SLIP = 0,
+    GROUND_MOTION_NORMAL = 1,
+    GROUND_MOTION_REVERSE = 2,
+    GROUND_MOTION_REVERSE_OBLIQUE = 3,
+    GROUND_MOTION_OTHER_OBLIQUE = 4,
+    GROUND_MOTION_UNSPECIFIED = 9
+};
+
+/* A scenario that was read, and the caller's own bytes after its record; none of them where the read is refused. */
+typedef struct {
+    uint8_t number;
+    fusnoch_scenario scenario;
+    const uint8_t *rest;
+    size_t rest_length;
+} ground_motion_reading;
+
+/* What the number of a refusal, 1 to 12, stands for: "period: neither 0 nor tabled for the model". */
+const char *ground_motion_words(uint8_t number);
+
+fusnoch_answer ground_motion_answer_record(const uint8_t *bytes, size_t length);
+fusnoch_doubles ground_motion_answer_record_in_doubles(const uint8_t *bytes, size_t length);
+ground_motion_reading ground_motion_read(const uint8_t *bytes, size_t length);
+
+/* Puts the record at the front of the lent bytes; refused, it leaves them as they are. */
+fusnoch_writing ground_motion_write(fusnoch_scenario scenario, uint8_t *lent, size_t length);
+
+#endif
