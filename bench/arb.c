@@ -8,7 +8,9 @@
 enum { BITS = 64 };
 
 enum { A1, A2, A3, B1, B2, XI, GAMMA, PHI, IDRISS_COLUMNS };
-enum { BLIN, B1_SITE, B2_SITE, C1, C2, C3, E1, E5 = E1 + 4, E6, E7, UNSPECIFIED, SPECIFIED, BOORE_ATKINSON_COLUMNS };
+/* The columns that a magnitude up to the hinge takes stand together, and so do those that one above it takes. */
+enum { E5, E6, C1, C2, C3, E7, E1, BLIN = E1 + 4, B1_SITE, B2_SITE, UNSPECIFIED, SPECIFIED, BOORE_ATKINSON_COLUMNS };
+enum { UP_TO_HINGE = E7 - E5, ABOVE_HINGE = E1 - C1 };
 
 #define PERIOD(period, ...) period,
 static const uint16_t IDRISS_PERIODS[ROWS] = {IDRISS_TABLE_2(PERIOD)};
@@ -18,7 +20,7 @@ static const uint16_t BOORE_ATKINSON_PERIODS[ROWS] = {BOORE_ATKINSON_TABLES(PERI
 static const char *const IDRISS_TEXT[2][ROWS][IDRISS_COLUMNS] = {{IDRISS_TABLE_2(TEXT)}, {IDRISS_TABLE_3(TEXT)}};
 #undef TEXT
 #define TEXT(period, blin, b1, b2, c1, c2, c3, h, e1, e2, e3, e4, e5, e6, e7, hinge, unspecified, specified) \
-    {#blin, #b1, #b2, #c1, #c2, #c3, #e1, #e2, #e3, #e4, #e5, #e6, #e7, #unspecified, #specified},
+    {#e5, #e6, #c1, #c2, #c3, #e7, #e1, #e2, #e3, #e4, #blin, #b1, #b2, #unspecified, #specified},
 static const char *const BOORE_ATKINSON_TEXT[ROWS][BOORE_ATKINSON_COLUMNS] = {BOORE_ATKINSON_TABLES(TEXT)};
 
 /* h in hundredths of a kilometre and the hinge magnitude in hundredths are whole numbers. */
@@ -29,7 +31,7 @@ static const slong HINGE_HUNDREDTHS[ROWS] = {BOORE_ATKINSON_TABLES(HINGE)};
 
 /* What each column is divided by: 1, or the units of its field in one. */
 static const ulong IDRISS_UNITS[IDRISS_COLUMNS] = {1, 100, 10000, 1, 100, 1, 100, 1};
-static const ulong BOORE_ATKINSON_UNITS[BOORE_ATKINSON_COLUMNS] = {1, 1, 1, 1, 100, 100, 1, 1, 1, 1, 100, 10000, 100,
+static const ulong BOORE_ATKINSON_UNITS[BOORE_ATKINSON_COLUMNS] = {100, 10000, 1, 100, 100, 100, 1, 1, 1, 1, 1, 1, 1,
                                                                    1, 1};
 
 /* Which of e1 to e4 a mechanism code takes. */
@@ -42,15 +44,13 @@ static arb_struct boore_atkinson_balls[ROWS][BOORE_ATKINSON_COLUMNS];
 static arb_struct sigma_of_period[ROWS];
 static arb_t sigma_of_magnitude;
 
-/* c3 for one kilometre, the Rref that is taken off R. */
-static arb_struct c3_of_rref[ROWS];
-
 static arb_t ln_10, ln_100, ln_10000, ln_3000, ln_7600, ln_0_03, ln_0_09, ln_0_1, ln_0_6;
-/* 1 / ln(300/180), 1 / ln(760/300), and c and d of the nonlinear part over the slope */
+/* 1 / ln(180/300), 1 / ln(300/760), and c and d of the nonlinear part over the slope */
 static arb_t to_180, to_300, c_over_slope, d_over_slope;
 
-/* Balls that are written anew for each answer. */
-static arb_t ln_r, ln_v, root, factor, rock, rock_acceleration, bnl, nonlinear, z, branch;
+/* Balls that are written anew for each answer; the terms go with the columns. */
+static arb_struct idriss_terms[IDRISS_COLUMNS], boore_atkinson_terms[E1];
+static arb_t ln_v, ln_v_over_760, factor, rock, rock_acceleration, bnl, nonlinear, over_lower, over_upper, branch;
 
 /* x becomes ln(a/b). */
 static void set_ln(arb_t x, ulong a, ulong b)
@@ -82,8 +82,6 @@ static void ready_tables(void)
             arb_init(ball);
             set_decimal(ball, BOORE_ATKINSON_TEXT[row][column], BOORE_ATKINSON_UNITS[column]);
         }
-        arb_init(&c3_of_rref[row]);
-        set_decimal(&c3_of_rref[row], BOORE_ATKINSON_TEXT[row][C3], 1);
     }
 }
 
@@ -137,7 +135,7 @@ static void ready_constants(void)
         ulong a, b;
     } logarithms[] = {{ln_10, 10, 1},     {ln_100, 100, 1}, {ln_10000, 10000, 1}, {ln_3000, 3000, 1},
                       {ln_7600, 7600, 1}, {ln_0_03, 3, 100}, {ln_0_09, 9, 100},   {ln_0_1, 1, 10},
-                      {ln_0_6, 6, 10},    {to_180, 300, 180}, {to_300, 760, 300}};
+                      {ln_0_6, 6, 10},    {to_180, 180, 300}, {to_300, 300, 760}};
 
     for (size_t i = 0; i < sizeof logarithms / sizeof *logarithms; i++) {
         arb_init(logarithms[i].ball);
@@ -149,11 +147,15 @@ static void ready_constants(void)
 
 void ready_arb(void)
 {
-    arb_ptr balls[] = {ln_r, ln_v, root, factor, rock, rock_acceleration, bnl, nonlinear, z, branch, c_over_slope,
-                       d_over_slope};
+    arb_ptr balls[] = {ln_v, ln_v_over_760, factor, rock, rock_acceleration, bnl, nonlinear, over_lower, over_upper,
+                       branch, c_over_slope, d_over_slope};
 
     for (size_t i = 0; i < sizeof balls / sizeof *balls; i++)
         arb_init(balls[i]);
+    for (int column = 0; column < IDRISS_COLUMNS; column++)
+        arb_init(&idriss_terms[column]);
+    for (int column = 0; column < E1; column++)
+        arb_init(&boore_atkinson_terms[column]);
     ready_tables();
     ready_sigma();
     ready_transition();
@@ -173,25 +175,21 @@ static void idriss(arb_t median, arb_t sigma, fusnoch_scenario s)
 {
     size_t row = s.period == 0 ? 0 : row_of(IDRISS_PERIODS, s.period);
     arb_srcptr at = idriss_balls[s.magnitude > 675][row];
+    arb_ptr term = idriss_terms;
     ulong to_top = 850 - s.magnitude;
 
-    /* ln(R + 10) and ln V */
-    arb_log_ui(ln_r, s.distance + 1000, BITS);
-    arb_sub(ln_r, ln_r, ln_100, BITS);
-    arb_log_ui(ln_v, s.velocity < 12000 ? s.velocity : 12000, BITS);
-    arb_sub(ln_v, ln_v, ln_10, BITS);
-
-    arb_set(factor, &at[B1]);
-    arb_addmul_ui(factor, &at[B2], s.magnitude, BITS);
-
-    arb_set(median, &at[A1]);
-    arb_addmul_ui(median, &at[A2], s.magnitude, BITS);
-    arb_addmul_ui(median, &at[A3], to_top * to_top, BITS);
-    arb_submul(median, factor, ln_r, BITS);
-    arb_addmul(median, &at[XI], ln_v, BITS);
-    arb_addmul_ui(median, &at[GAMMA], s.distance, BITS);
-    if (s.mechanism >= 2)
-        arb_add(median, median, &at[PHI], BITS);
+    arb_one(&term[A1]);
+    arb_set_ui(&term[A2], s.magnitude);
+    arb_set_ui(&term[A3], to_top * to_top);
+    /* -ln(R + 10), alone and times the magnitude */
+    arb_log_ui(&term[B1], s.distance + 1000, BITS);
+    arb_sub(&term[B1], ln_100, &term[B1], BITS);
+    arb_mul_ui(&term[B2], &term[B1], s.magnitude, BITS);
+    arb_log_ui(&term[XI], s.velocity < 12000 ? s.velocity : 12000, BITS);
+    arb_sub(&term[XI], &term[XI], ln_10, BITS);
+    arb_set_ui(&term[GAMMA], s.distance);
+    arb_set_ui(&term[PHI], s.mechanism >= 2);
+    arb_dot(median, NULL, 0, at, 1, term, 1, IDRISS_COLUMNS, BITS);
 
     arb_set(sigma, &sigma_of_period[row]);
     arb_submul_ui(sigma, sigma_of_magnitude, s.magnitude < 500 ? 500 : s.magnitude > 750 ? 750 : s.magnitude, BITS);
@@ -200,54 +198,51 @@ static void idriss(arb_t median, arb_t sigma, fusnoch_scenario s)
 /* The distance term and the magnitude term of Boore-Atkinson; for the row PGA this is p. */
 static void on_rock(arb_t sum, size_t row, fusnoch_scenario s)
 {
-    arb_srcptr at = boore_atkinson_balls[row];
+    arb_srcptr at = boore_atkinson_balls[row], e = &at[E_OF_CODE[s.mechanism]];
+    arb_ptr term = boore_atkinson_terms;
     ulong squares = (ulong)s.distance * s.distance + H_HUNDREDTHS[row] * H_HUNDREDTHS[row];
     slong beyond_hinge = s.magnitude - HINGE_HUNDREDTHS[row];
 
-    /* ln R is half of ln(R^2). */
-    arb_log_ui(ln_r, squares, BITS);
-    arb_sub(ln_r, ln_r, ln_10000, BITS);
-    arb_mul_2exp_si(ln_r, ln_r, -1);
-    arb_sqrt_ui(root, squares, BITS);
+    /* ln R, which is half of ln(R^2), alone and times M - Mref; then R - Rref */
+    arb_log_ui(&term[C1], squares, BITS);
+    arb_sub(&term[C1], &term[C1], ln_10000, BITS);
+    arb_mul_2exp_si(&term[C1], &term[C1], -1);
+    arb_mul_si(&term[C2], &term[C1], s.magnitude - 450, BITS);
+    arb_sqrt_ui(&term[C3], squares, BITS);
+    arb_sub_ui(&term[C3], &term[C3], 100, BITS);
 
-    arb_set(factor, &at[C1]);
-    arb_addmul_si(factor, &at[C2], s.magnitude - 450, BITS);
-
-    arb_sub(sum, &at[E_OF_CODE[s.mechanism]], &c3_of_rref[row], BITS);
-    arb_addmul(sum, &at[C3], root, BITS);
-    arb_addmul(sum, factor, ln_r, BITS);
     if (beyond_hinge <= 0) {
-        arb_addmul_si(sum, &at[E5], beyond_hinge, BITS);
-        arb_addmul_si(sum, &at[E6], beyond_hinge * beyond_hinge, BITS);
+        arb_set_si(&term[E5], beyond_hinge);
+        arb_set_si(&term[E6], beyond_hinge * beyond_hinge);
+        arb_dot(sum, e, 0, &at[E5], 1, &term[E5], 1, UP_TO_HINGE, BITS);
     } else {
-        arb_addmul_si(sum, &at[E7], beyond_hinge, BITS);
+        arb_set_si(&term[E7], beyond_hinge);
+        arb_dot(sum, e, 0, &at[C1], 1, &term[C1], 1, ABOVE_HINGE, BITS);
     }
 }
 
-/* The slope bnl of the site term, from ln of the velocity in tenths. */
+/* The slope bnl of the site term, from the logarithms of the velocity. */
 static void slope(arb_srcptr at, uint16_t velocity)
 {
     if (velocity <= 1800) {
         arb_set(bnl, &at[B1_SITE]);
     } else if (velocity <= 3000) {
-        arb_sub(bnl, ln_3000, ln_v, BITS);
+        arb_sub(bnl, ln_v, ln_3000, BITS);
         arb_mul(bnl, bnl, to_180, BITS);
         arb_sub(factor, &at[B1_SITE], &at[B2_SITE], BITS);
         arb_mul(bnl, bnl, factor, BITS);
         arb_add(bnl, bnl, &at[B2_SITE], BITS);
     } else if (velocity < 7600) {
-        arb_sub(bnl, ln_7600, ln_v, BITS);
-        arb_mul(bnl, bnl, to_300, BITS);
+        arb_mul(bnl, ln_v_over_760, to_300, BITS);
         arb_mul(bnl, bnl, &at[B2_SITE], BITS);
     } else {
         arb_zero(bnl);
     }
 }
 
-/* The nonlinear part over the slope between the thresholds. */
-static void transition(arb_t sum, const arb_t p)
+/* The nonlinear part over the slope between the thresholds, with z = p - ln 0.03. */
+static void transition(arb_t sum, const arb_t z)
 {
-    arb_sub(z, p, ln_0_03, BITS);
     arb_set(sum, c_over_slope);
     arb_addmul(sum, d_over_slope, z, BITS);
     arb_mul(sum, sum, z, BITS);
@@ -258,21 +253,21 @@ static void transition(arb_t sum, const arb_t p)
 /* The nonlinear part over the slope: the one branch that p reaches, or the union of those that it may reach. */
 static void nonlinear_over_slope(const arb_t p)
 {
-    int up_to_lower = arb_le(p, ln_0_03), above_lower = arb_gt(p, ln_0_03);
-    int up_to_upper = up_to_lower || arb_le(p, ln_0_09), above_upper = above_lower && arb_gt(p, ln_0_09);
     int reached = 0;
 
-    if (!above_lower) {
+    arb_sub(over_lower, p, ln_0_03, BITS);
+    arb_sub(over_upper, p, ln_0_09, BITS);
+    if (!arb_is_positive(over_lower)) {
         arb_set(nonlinear, ln_0_6);
         reached = 1;
     }
-    if (!up_to_lower && !above_upper) {
-        transition(reached ? branch : nonlinear, p);
+    if (!arb_is_nonpositive(over_lower) && !arb_is_positive(over_upper)) {
+        transition(reached ? branch : nonlinear, over_lower);
         if (reached)
             arb_union(nonlinear, nonlinear, branch, BITS);
         reached = 1;
     }
-    if (!up_to_upper) {
+    if (!arb_is_nonpositive(over_upper)) {
         arb_sub(reached ? branch : nonlinear, p, ln_0_1, BITS);
         if (reached)
             arb_union(nonlinear, nonlinear, branch, BITS);
@@ -285,11 +280,11 @@ static void boore_atkinson(arb_t median, arb_t sigma, fusnoch_scenario s)
     arb_srcptr at = boore_atkinson_balls[row];
 
     arb_log_ui(ln_v, s.velocity, BITS);
+    arb_sub(ln_v_over_760, ln_v, ln_7600, BITS);
     on_rock(rock, row, s);
     slope(at, s.velocity);
 
-    arb_sub(z, ln_v, ln_7600, BITS);
-    arb_mul(median, &at[BLIN], z, BITS);
+    arb_mul(median, &at[BLIN], ln_v_over_760, BITS);
     arb_add(median, median, rock, BITS);
     /* Without a slope there is no need of p, and for the row PGA it is known already. */
     if (!arb_is_zero(bnl)) {

@@ -1,0 +1,405 @@
+/* The benchmark: nanoseconds per answer of the engine's library, of plain C doubles and of Arb, in one run.
+
+   bench                           checks that all agree, then measures and prints a table for each model
+   bench count CONTESTANT MODEL N  only works out N answers, for a counter of instructions
+
+   Scenarios are drawn over all the limits of a model, with a fixed seed, and kept in memory with their records. */
+
+#include <math.h>
+#include <sched.h>
+#include <stdio.h>
+#include <stdlib.h>
+#include <string.h>
+#include <time.h>
+
+#include "peers.h"
+
+enum { SCENARIOS = 1024, PASSES = 16, ROUNDS = 101, RECORD_ROOM = 16 };
+
+/* How far plain C may lie outside of our ends, in units of a natural logarithm. */
+#define PLAIN_MAY_DIFFER 1e-6
+
+typedef struct {
+    fusnoch_scenario scenario[SCENARIOS];
+    uint8_t record[SCENARIOS][RECORD_ROOM];
+    size_t length[SCENARIOS];
+} drawn;
+
+static const char *const MODEL_NAMES[2] = {"Idriss 2014", "Boore and Atkinson 2008"};
+
+/* Everything that the contestants return ends up here. */
+static volatile uint64_t consumed;
+static volatile double consumed_double;
+
+/* ---- The scenarios ---- */
+
+/* The next number of a generator (splitmix64), from 0 to less than the limit. */
+static uint32_t draw(uint64_t *state, uint32_t limit)
+{
+    uint64_t x = *state += 0x9e3779b97f4a7c15;
+    x = (x ^ x >> 30) * 0xbf58476d1ce4e5b9;
+    x = (x ^ x >> 27) * 0x94d049bb133111eb;
+    return (uint32_t)((x ^ x >> 31) % limit);
+}
+
+static fusnoch_scenario draw_idriss(uint64_t *state)
+{
+    static const uint16_t periods[] = {0,   10,  20,  30,  40,   50,   75,   100,  150,  200,  250, 300,
+                                       400, 500, 750, 1000, 1500, 2000, 3000, 4000, 5000, 7500, 10000};
+    fusnoch_scenario s = {.model = 1};
+    s.magnitude = 450 + draw(state, 790 - 450 + 1);
+    s.distance = draw(state, 17500 + 1);
+    s.velocity = 4500 + draw(state, 20000 - 4500 + 1);
+    s.mechanism = draw(state, 5);
+    s.period = periods[draw(state, sizeof periods / sizeof *periods)];
+    return s;
+}
+
+static fusnoch_scenario draw_boore_atkinson(uint64_t *state)
+{
+    static const uint16_t periods[] = {0,   10,  20,  30,   50,   75,   100,  150,  200,  250,  300,
+                                       400, 500, 750, 1000, 1500, 2000, 3000, 4000, 5000, 7500, 10000};
+    static const uint8_t codes[] = {0, 1, 2, 3, 9};
+    fusnoch_scenario s = {.model = 2};
+    s.magnitude = 500 + draw(state, 800 - 500 + 1);
+    s.distance = draw(state, 19999 + 1);
+    s.velocity = 1800 + draw(state, 13000 - 1800 + 1);
+    s.mechanism = codes[draw(state, sizeof codes)];
+    s.period = periods[draw(state, sizeof periods / sizeof *periods)];
+    return s;
+}
+
+static uint8_t *put_two(uint8_t *place, uint16_t number)
+{
+    *place++ = number & 0xff;
+    *place++ = number >> 8;
+    return place;
+}
+
+/* Write the record of a scenario and return its length: a map byte, then the fields that have no absent number. */
+static size_t encode(uint8_t *record, fusnoch_scenario s)
+{
+    uint8_t *place = record;
+    *place++ = 7 | (s.velocity != 7600) << 3 | (s.mechanism != 9) << 4 | (s.period != 0) << 5;
+    *place++ = s.model;
+    place = put_two(place, s.magnitude);
+    place = put_two(place, s.distance);
+    if (s.velocity != 7600)
+        place = put_two(place, s.velocity);
+    if (s.mechanism != 9)
+        *place++ = s.mechanism;
+    if (s.period != 0)
+        place = put_two(place, s.period);
+    return (size_t)(place - record);
+}
+
+static void draw_all(drawn *all, int model)
+{
+    uint64_t state = 20140801 + (uint64_t)model;
+    for (int i = 0; i < SCENARIOS; i++) {
+        all->scenario[i] = model == 1 ? draw_idriss(&state) : draw_boore_atkinson(&state);
+        all->length[i] = encode(all->record[i], all->scenario[i]);
+    }
+}
+
+/* ---- The contestants, each a loop that goes round the scenarios ---- */
+
+static uint64_t mixed(fusnoch_answer a)
+{
+    return (uint64_t)(a.number + a.median_low + a.median_high + a.sigma_low + a.sigma_high);
+}
+
+static double mixed_doubles(fusnoch_doubles a)
+{
+    return a.number + a.median_low + a.median_high + a.sigma_low + a.sigma_high;
+}
+
+static void run_fields(const drawn *all, size_t answers)
+{
+    uint64_t sum = 0;
+    for (size_t i = 0; i < answers; i++)
+        sum += mixed(fusnoch_answer_fields(all->scenario[i % SCENARIOS]));
+    consumed += sum;
+}
+
+static void run_record(const drawn *all, size_t answers)
+{
+    uint64_t sum = 0;
+    for (size_t i = 0; i < answers; i++)
+        sum += mixed(fusnoch_answer_record(all->record[i % SCENARIOS], all->length[i % SCENARIOS]));
+    consumed += sum;
+}
+
+static void run_fields_in_doubles(const drawn *all, size_t answers)
+{
+    double sum = 0;
+    for (size_t i = 0; i < answers; i++)
+        sum += mixed_doubles(fusnoch_answer_fields_in_doubles(all->scenario[i % SCENARIOS]));
+    consumed_double += sum;
+}
+
+static void run_record_in_doubles(const drawn *all, size_t answers)
+{
+    double sum = 0;
+    for (size_t i = 0; i < answers; i++)
+        sum += mixed_doubles(
+            fusnoch_answer_record_in_doubles(all->record[i % SCENARIOS], all->length[i % SCENARIOS]));
+    consumed_double += sum;
+}
+
+static void run_plain(const drawn *all, size_t answers)
+{
+    double sum = 0;
+    for (size_t i = 0; i < answers; i++) {
+        plain_answer a = answer_in_plain_c(all->scenario[i % SCENARIOS]);
+        sum += a.median + a.sigma;
+    }
+    consumed_double += sum;
+}
+
+static void run_arb(const drawn *all, size_t answers)
+{
+    uint64_t sum = 0;
+    arb_t median, sigma;
+    arb_init(median);
+    arb_init(sigma);
+    for (size_t i = 0; i < answers; i++) {
+        answer_in_arb(median, sigma, all->scenario[i % SCENARIOS]);
+        sum += (uint64_t)(ARF_EXP(arb_midref(median)) + ARF_EXP(arb_midref(sigma)));
+    }
+    consumed += sum;
+    arb_clear(median);
+    arb_clear(sigma);
+}
+
+/* The loop alone.  The empty line keeps the compiler from taking several scenarios at a time. */
+static void run_nothing(const drawn *all, size_t answers)
+{
+    uint64_t sum = 0;
+    for (size_t i = 0; i < answers; i++) {
+        sum += all->scenario[i % SCENARIOS].magnitude;
+        __asm__ volatile("" : "+r"(sum));
+    }
+    consumed += sum;
+}
+
+typedef struct {
+    const char *name, *title;
+    void (*run)(const drawn *all, size_t answers);
+} contestant;
+
+/* The first four are ours; the table of times leaves the last one out. */
+enum { OURS = 4, PLAIN = 4, ARB = 5, TIMED = 6, CONTESTANTS = 7 };
+static const contestant CONTESTANT[CONTESTANTS] = {
+    {"fields", "ours, from fields", run_fields},
+    {"record", "ours, from a record", run_record},
+    {"fields_in_doubles", "ours, from fields, in doubles", run_fields_in_doubles},
+    {"record_in_doubles", "ours, from a record, in doubles", run_record_in_doubles},
+    {"plain", "plain C doubles", run_plain},
+    {"arb", "Arb, 64 bits", run_arb},
+    {"nothing", "the loop alone", run_nothing},
+};
+
+/* ---- Do they agree? ---- */
+
+/* The distance of a value from our ends, 0 within them. */
+static double outside(double value, int64_t low, int64_t high)
+{
+    return fmax(fmax((double)low * 1e-9 - value, value - (double)high * 1e-9), 0);
+}
+
+/* Say whether the ball and our ends, in units of 10^-9, have a point in common. */
+static int meets(const arb_t ball, int64_t low, int64_t high)
+{
+    arb_t units, end;
+    int met;
+    arb_init(units);
+    arb_init(end);
+    arb_mul_ui(units, ball, 1000000000, 128);
+    arb_set_si(end, low);
+    met = !arb_lt(units, end);
+    arb_set_si(end, high);
+    met = met && low <= high && !arb_gt(units, end);
+    arb_clear(units);
+    arb_clear(end);
+    return met;
+}
+
+static int same(fusnoch_answer a, fusnoch_answer b)
+{
+    return a.number == b.number && a.median_low == b.median_low && a.median_high == b.median_high
+        && a.sigma_low == b.sigma_low && a.sigma_high == b.sigma_high;
+}
+
+static int same_in_doubles(fusnoch_answer a, fusnoch_doubles b)
+{
+    return a.number == b.number && (double)a.median_low == b.median_low && (double)a.median_high == b.median_high
+        && (double)a.sigma_low == b.sigma_low && (double)a.sigma_high == b.sigma_high;
+}
+
+/* Return what is wrong with the answers to a scenario, or a null pointer. */
+static const char *fault_of(const drawn *all, int i, fusnoch_answer ours, plain_answer plain, arb_t median, arb_t sigma)
+{
+    const uint8_t *record = all->record[i];
+    size_t length = all->length[i];
+    if (ours.number != 0)
+        return "our library refuses an accepted scenario";
+    if (!same(ours, fusnoch_answer_record(record, length)))
+        return "our answers from fields and from a record differ";
+    if (!same_in_doubles(ours, fusnoch_answer_fields_in_doubles(all->scenario[i]))
+        || !same_in_doubles(ours, fusnoch_answer_record_in_doubles(record, length)))
+        return "our answers in doubles differ";
+    if (!(outside(plain.median, ours.median_low, ours.median_high) <= PLAIN_MAY_DIFFER)
+        || !(outside(plain.sigma, ours.sigma_low, ours.sigma_high) <= PLAIN_MAY_DIFFER))
+        return "plain C lies too far outside of our ends";
+    if (!meets(median, ours.median_low, ours.median_high) || !meets(sigma, ours.sigma_low, ours.sigma_high))
+        return "Arb's ball does not meet our ends";
+    return NULL;
+}
+
+static void print_fault(const char *fault, fusnoch_scenario s, fusnoch_answer ours, plain_answer plain, arb_t median,
+                        arb_t sigma)
+{
+    printf("%s:\n", fault);
+    printf("  model %d, magnitude %d, distance %d, velocity %d, mechanism %d, period %d\n", s.model, s.magnitude,
+           s.distance, s.velocity, s.mechanism, s.period);
+    printf("  ours    number %d, median %lld to %lld, sigma %lld to %lld (units of 10^-9)\n", ours.number,
+           (long long)ours.median_low, (long long)ours.median_high, (long long)ours.sigma_low,
+           (long long)ours.sigma_high);
+    printf("  plain C median %.12f, sigma %.12f\n", plain.median, plain.sigma);
+    printf("  Arb     median ");
+    arb_printd(median, 20);
+    printf(", sigma ");
+    arb_printd(sigma, 20);
+    printf("\n");
+}
+
+/* Say whether all contestants agree on all the scenarios; print the first one on which they do not. */
+static int agree(const drawn *all)
+{
+    const char *fault = NULL;
+    arb_t median, sigma;
+    arb_init(median);
+    arb_init(sigma);
+    for (int i = 0; i < SCENARIOS && fault == NULL; i++) {
+        fusnoch_answer ours = fusnoch_answer_fields(all->scenario[i]);
+        plain_answer plain = answer_in_plain_c(all->scenario[i]);
+        answer_in_arb(median, sigma, all->scenario[i]);
+        fault = fault_of(all, i, ours, plain, median, sigma);
+        if (fault != NULL)
+            print_fault(fault, all->scenario[i], ours, plain, median, sigma);
+    }
+    arb_clear(median);
+    arb_clear(sigma);
+    return fault == NULL;
+}
+
+/* ---- Measuring ---- */
+
+/* Processor time, so that other programs on the machine count for less. */
+static double nanoseconds(void)
+{
+    struct timespec now;
+    clock_gettime(CLOCK_PROCESS_CPUTIME_ID, &now);
+    return (double)now.tv_sec * 1e9 + (double)now.tv_nsec;
+}
+
+static int in_order(const void *a, const void *b)
+{
+    double first = *(const double *)a, second = *(const double *)b;
+    return (first > second) - (first < second);
+}
+
+/* Return the nanoseconds per answer of one contestant in one round. */
+static double time_of(const contestant *who, const drawn *all)
+{
+    double start = nanoseconds();
+    who->run(all, (size_t)PASSES * SCENARIOS);
+    return (nanoseconds() - start) / (PASSES * SCENARIOS);
+}
+
+/* Fill in the times of all rounds, in order, by model and contestant; a first round only warms up. */
+static void measure(const drawn all[2], double times[2][TIMED][ROUNDS])
+{
+    for (int round = -1; round < ROUNDS; round++) {
+        for (int i = 0; i < 2 * TIMED; i++) {
+            double taken = time_of(&CONTESTANT[i % TIMED], &all[i / TIMED]);
+            if (round >= 0)
+                times[i / TIMED][i % TIMED][round] = taken;
+        }
+    }
+    for (int i = 0; i < 2 * TIMED; i++)
+        qsort(times[i / TIMED][i % TIMED], ROUNDS, sizeof(double), in_order);
+}
+
+static void print_times(int model, double times[TIMED][ROUNDS])
+{
+    printf("\n%-33s %8s %8s %14s %12s\n", MODEL_NAMES[model - 1], "best", "median", "ours / plain", "Arb / ours");
+    for (int who = 0; who < TIMED; who++) {
+        double best = times[who][0];
+        printf("  %-31s %8.1f %8.1f", CONTESTANT[who].title, best, times[who][ROUNDS / 2]);
+        if (who < OURS)
+            printf(" %14.2f %12.2f", best / times[PLAIN][0], times[ARB][0] / best);
+        printf("\n");
+    }
+}
+
+/* Keep to the core that the program is on.  Where this is not allowed, the measurement goes on without. */
+static void keep_to_one_core(void)
+{
+    cpu_set_t cores;
+    int core = sched_getcpu();
+    if (core < 0)
+        return;
+    CPU_ZERO(&cores);
+    CPU_SET(core, &cores);
+    if (sched_setaffinity(0, sizeof cores, &cores) != 0)
+        fprintf(stderr, "bench: not held to one core\n");
+}
+
+static int compare(void)
+{
+    static drawn all[2];
+    static double times[2][TIMED][ROUNDS];
+
+    keep_to_one_core();
+    for (int model = 1; model <= 2; model++) {
+        draw_all(&all[model - 1], model);
+        if (!agree(&all[model - 1]))
+            return 1;
+    }
+    printf("Nanoseconds per answer, one thread: %d scenarios of each model, drawn over all its limits.\n", SCENARIOS);
+    printf("The contestants take turns, %d rounds of %d answers each; the best round and the median of the rounds.\n",
+           ROUNDS, PASSES * SCENARIOS);
+    printf("Before the measurement all contestants agreed on all of the scenarios.  Ratios are of the best rounds.\n");
+    measure(all, times);
+    for (int model = 1; model <= 2; model++)
+        print_times(model, times[model - 1]);
+    return 0;
+}
+
+static int count(const char *name, const char *model, const char *answers)
+{
+    static drawn all;
+    int number = atoi(model);
+    for (int who = 0; who < CONTESTANTS; who++) {
+        if (strcmp(name, CONTESTANT[who].name) == 0 && (number == 1 || number == 2)) {
+            draw_all(&all, number);
+            CONTESTANT[who].run(&all, strtoul(answers, NULL, 10));
+            return 0;
+        }
+    }
+    fprintf(stderr, "bench: no contestant %s or no model %s\n", name, model);
+    return 2;
+}
+
+int main(int words, char **word)
+{
+    ready_arb();
+    if (words == 1)
+        return compare();
+    if (words == 5 && strcmp(word[1], "count") == 0)
+        return count(word[2], word[3], word[4]);
+    fprintf(stderr, "usage: bench, or bench count CONTESTANT MODEL N\n");
+    return 2;
+}

@@ -1,0 +1,201 @@
+"""Ground motion with proved ends, for programs in Python: the safe way to the engine.
+
+libfusnoch.so is taken from the directory that the environment variable FUSNOCH_LIB names, or else from the
+repository's target/lib.
+"""
+
+import ctypes
+import os
+from ctypes import c_char_p, c_double, c_int64, c_size_t, c_uint8, c_uint16, c_void_p
+from dataclasses import astuple, dataclass
+from typing import NamedTuple
+
+IDRISS = 1
+BOORE_ATKINSON = 2
+
+# The bytes of a record with all its fields.
+LONGEST_RECORD = 11
+
+# What the number of a refusal stands for.
+WORDS = {
+    1: 'model: neither 1 nor 2',
+    2: "magnitude: beyond the model's limits",
+    3: "distance: beyond the model's limits",
+    4: "velocity: beyond the model's limits",
+    5: 'mechanism: not a code of the model',
+    6: 'period: neither 0 nor tabled for the model',
+    7: 'cut short: no map byte, or fewer bytes than the map calls for',
+    8: 'spare bit: bit 6 or 7 stands',
+    9: 'wanting: bit 0, 1 or 2 is clear',
+    10: 'blank: no bit stands',
+    11: 'plain default: a field written with its absent number',
+    12: 'page full: lent bytes shorter than the record',
+}
+
+
+class Refused(Exception):
+    """A refusal.
+
+    It is raised, so that no one takes a refused scenario for an answered one by leaving a number unread; refusal()
+    gives the number of a scenario to those who would rather ask first.
+    """
+
+    def __init__(self, number):
+        self.number = number
+        self.words = WORDS.get(number, 'not a refusal')
+        super().__init__(number)
+
+    def __str__(self):
+        return f'refusal {self.number}, {self.words}'
+
+
+# ---------------------------------------------------------------------------
+# fusnoch.h
+# ---------------------------------------------------------------------------
+
+class _Scenario(ctypes.Structure):
+    _fields_ = [('model', c_uint8), ('magnitude', c_uint16), ('distance', c_uint16), ('velocity', c_uint16),
+                ('mechanism', c_uint8), ('period', c_uint16)]
+
+
+class _Answer(ctypes.Structure):
+    _fields_ = [('number', c_uint8), ('ends', c_int64 * 4)]
+
+
+class _Doubles(ctypes.Structure):
+    _fields_ = [('number', c_uint8), ('ends', c_double * 4)]
+
+
+class _Reading(ctypes.Structure):
+    _fields_ = [('number', c_uint8), ('scenario', _Scenario), ('length', c_size_t)]
+
+
+class _Writing(ctypes.Structure):
+    _fields_ = [('number', c_uint8), ('length', c_size_t)]
+
+
+def _load():
+    """Return the library, its functions with their types."""
+    nearby = os.path.join(os.path.dirname(os.path.abspath(__file__)), '..', '..', 'target', 'lib')
+    library = ctypes.CDLL(os.path.abspath(os.path.join(os.environ.get('FUSNOCH_LIB') or nearby, 'libfusnoch.so')))
+    for name, result, *taken in (
+            ('refusal', c_uint8, _Scenario),
+            ('answer_fields', _Answer, _Scenario),
+            ('answer_record', _Answer, c_char_p, c_size_t),
+            ('answer_fields_in_doubles', _Doubles, _Scenario),
+            ('answer_record_in_doubles', _Doubles, c_char_p, c_size_t),
+            ('read', _Reading, c_char_p, c_size_t),
+            ('write', _Writing, _Scenario, c_void_p, c_size_t)):
+        function = getattr(library, f'fusnoch_{name}')
+        function.restype, function.argtypes = result, taken
+    return library
+
+
+LIBRARY = _load()
+
+
+# ---------------------------------------------------------------------------
+# Scenarios, answers and records
+# ---------------------------------------------------------------------------
+
+@dataclass(frozen=True)
+class Scenario:
+    """The fields of a scenario, whole numbers in the units named here."""
+
+    model: int  # 1 Idriss, 2 Boore-Atkinson
+    magnitude: int  # 0.01
+    distance: int  # 0.01 km, to the rupture (Idriss) or to its surface projection (Boore-Atkinson)
+    velocity: int  # V_S30, 0.1 m/s
+    mechanism: int  # 0 strike-slip, 1 normal, 2 reverse, 3 reverse oblique, 4 other oblique, 9 unspecified
+    period: int  # 0.001 s; 0 is peak acceleration
+
+    def __post_init__(self):
+        """See that each number fits its field: ctypes would cut it, and the engine answer another scenario."""
+        for name, kind in _Scenario._fields_:
+            number, most = getattr(self, name), 256 ** ctypes.sizeof(kind) - 1
+            if not isinstance(number, int) or isinstance(number, bool):
+                raise TypeError(f'{name} has to be a whole number (int), not {number!r}')
+            if not 0 <= number <= most:
+                raise ValueError(f'{name} has to be from 0 to {most}, not {number}')
+
+
+class Enclosure(NamedTuple):
+    """Ends of the natural logarithm of the median in g and of sigma, in units of 10^-9: whole numbers or floats."""
+
+    median_low: int
+    median_high: int
+    sigma_low: int
+    sigma_high: int
+
+
+def c_scenario(scenario):
+    """Return a scenario as fusnoch.h has it."""
+    if not isinstance(scenario, Scenario):
+        raise TypeError(f'a Scenario is wanted, not {scenario!r}')
+    return _Scenario(*astuple(scenario))
+
+
+def _bytes(data):
+    """Return the bytes of bytes, bytearray or memoryview; of nothing else, as bytes(5) would be five zeros."""
+    return bytes(memoryview(data))
+
+
+def _unless_refused(number):
+    if number != 0:
+        raise Refused(number)
+
+
+def _ends(answer):
+    _unless_refused(answer.number)
+    return Enclosure(*answer.ends)
+
+
+def refusal(scenario):
+    """Return the number of the refusal of a scenario, 0 for none."""
+    return LIBRARY.fusnoch_refusal(c_scenario(scenario))
+
+
+def answer(scenario):
+    """Return the enclosure of a scenario."""
+    return _ends(LIBRARY.fusnoch_answer_fields(c_scenario(scenario)))
+
+
+def answer_in_doubles(scenario):
+    """Return the enclosure of a scenario in floats that equal the whole numbers."""
+    return _ends(LIBRARY.fusnoch_answer_fields_in_doubles(c_scenario(scenario)))
+
+
+def answer_record(data):
+    """Return the enclosure of the scenario whose record is at the front of some bytes."""
+    given = _bytes(data)
+    return _ends(LIBRARY.fusnoch_answer_record(given, len(given)))
+
+
+def answer_record_in_doubles(data):
+    """Return the same in floats that equal the whole numbers."""
+    given = _bytes(data)
+    return _ends(LIBRARY.fusnoch_answer_record_in_doubles(given, len(given)))
+
+
+def read(data):
+    """Return the scenario whose record is at the front of some bytes, and the bytes after it."""
+    given = _bytes(data)
+    reading = LIBRARY.fusnoch_read(given, len(given))
+    _unless_refused(reading.number)
+    scenario = Scenario(*(getattr(reading.scenario, name) for name, _ in _Scenario._fields_))
+    return scenario, given[reading.length:]
+
+
+def write(scenario, lent):
+    """Put the record at the front of a lent bytearray and return its length; refused, leave it as it is."""
+    length = memoryview(lent).nbytes
+    # The array is not kept, as a bytearray cannot be resized while one is over it.
+    writing = LIBRARY.fusnoch_write(c_scenario(scenario), (c_uint8 * length).from_buffer(lent), length)
+    _unless_refused(writing.number)
+    return writing.length
+
+
+def record(scenario):
+    """Return the bytes of a scenario's record."""
+    lent = bytearray(LONGEST_RECORD)
+    return bytes(lent[:write(scenario, lent)])

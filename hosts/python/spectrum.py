@@ -1,0 +1,63 @@
+#!/usr/bin/env python3
+"""Print the spectrum of one earthquake by both models side by side.
+
+It is a vertical strike-slip fault that is ruptured from 3 km down, at a site 10 km beside it, so that the rupture is
+10.44 km away.
+"""
+
+import math
+from dataclasses import replace
+
+import fusnoch
+from fusnoch import Refused, Scenario
+
+# Each model has its own distance: to the rupture, and to its surface projection.
+IDRISS = Scenario(fusnoch.IDRISS, magnitude=700, distance=1044, velocity=7600, mechanism=0, period=0)
+BOORE_ATKINSON = replace(IDRISS, model=fusnoch.BOORE_ATKINSON, distance=1000)
+
+# In 0.001 s; 0 is peak acceleration.
+PERIODS = (0, 10, 20, 30, 40, 50, 75, 100, 150, 200, 250, 300, 400, 500, 750, 1000, 1500, 2000, 3000, 4000, 5000, 7500,
+           10000)
+
+
+def hundredths(number):
+    """Return a number of hundredths as a decimal."""
+    return f'{number // 100}.{number % 100:02}'
+
+
+def cell(scenario):
+    """Return the part of one model in a line: ends, or the refusal."""
+    try:
+        ends, doubles = fusnoch.answer(scenario), fusnoch.answer_in_doubles(scenario)
+    except Refused as refused:
+        return str(refused)
+    g = math.exp((doubles.median_low + doubles.median_high) / 2e9)
+    return f'{ends.median_low:12} {ends.median_high:12} {g:#10.4g} {ends.sigma_low:10} {ends.sigma_high:10}'
+
+
+def heading():
+    """Return the lines above the table."""
+    columns = ' '.join(['  median low', ' median high', 'g, rounded', ' sigma low', 'sigma high'])
+    return f'''\
+Spectrum, 5 percent damped: M {hundredths(IDRISS.magnitude)}, strike-slip, V_S30 \
+{IDRISS.velocity // 10}.{IDRISS.velocity % 10} m/s
+Idriss 2014 at {hundredths(IDRISS.distance)} km from the rupture, Boore and Atkinson 2008 at \
+{hundredths(BOORE_ATKINSON.distance)} km from its surface projection
+median, sigma: ends in units of 10^-9; they enclose the natural logarithm of the median in g, and sigma
+g, rounded: exp of the middle of the median's ends, to four digits, for reading; it is not enclosed
+
+{"":8} | {"Idriss 2014":58} | Boore and Atkinson 2008
+period s | {columns} | {columns}'''
+
+
+def main():
+    """Print the heading and a line for each period."""
+    print(heading())
+    for period in PERIODS:
+        name = f'{period // 1000}.{period % 1000:03}' if period else 'PGA'
+        idriss, boore_atkinson = (cell(replace(scenario, period=period)) for scenario in (IDRISS, BOORE_ATKINSON))
+        print(f'{name:>8} | {idriss:58} | {boore_atkinson}')
+
+
+if __name__ == '__main__':
+    main()

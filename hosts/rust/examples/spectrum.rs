@@ -1,0 +1,66 @@
+//! Prints the spectrum of one earthquake by both models side by side: a vertical strike-slip fault that is ruptured from
+//! 3 km down, at a site 10 km beside it, so that the rupture is 10.44 km away.
+
+use fusnoch::{Scenario, BOORE_ATKINSON, IDRISS};
+
+/// In 0.001 s; 0 is peak acceleration.
+const PERIODS: [u16; 23] = [
+    0, 10, 20, 30, 40, 50, 75, 100, 150, 200, 250, 300, 400, 500, 750, 1000, 1500, 2000, 3000, 4000, 5000, 7500, 10000,
+];
+
+/// A positive number to four digits.
+fn four_digits(number: f64) -> String {
+    let scientific = format!("{:.3e}", number);
+    let exponent: i32 = scientific[scientific.find('e').unwrap() + 1..].parse().unwrap();
+    format!("{:.*}", (3 - exponent).max(0) as usize, number)
+}
+
+/// The part of one model in a line: ends, or the refusal.
+fn cell(scenario: &Scenario) -> String {
+    match (fusnoch::answer(scenario), fusnoch::answer_in_doubles(scenario)) {
+        (Ok(ends), Ok(doubles)) => {
+            let g = four_digits(((doubles.median_low + doubles.median_high) / 2e9).exp());
+            format!(
+                "{:12} {:12} {:>10} {:10} {:10}",
+                ends.median_low, ends.median_high, g, ends.sigma_low, ends.sigma_high
+            )
+        }
+        (Err(refusal), _) | (_, Err(refusal)) => format!("refusal {}, {}", refusal.0, refusal),
+    }
+}
+
+fn print_heading(idriss: &Scenario, boore_atkinson: &Scenario) {
+    let hundredths = |number: u16| format!("{}.{:02}", number / 100, number % 100);
+    println!(
+        "Spectrum, 5 percent damped: M {}, strike-slip, V_S30 {}.{} m/s",
+        hundredths(idriss.magnitude),
+        idriss.velocity / 10,
+        idriss.velocity % 10
+    );
+    println!(
+        "Idriss 2014 at {} km from the rupture, Boore and Atkinson 2008 at {} km from its surface projection",
+        hundredths(idriss.distance),
+        hundredths(boore_atkinson.distance)
+    );
+    println!("median, sigma: ends in units of 10^-9; they enclose the natural logarithm of the median in g, and sigma");
+    println!("g, rounded: exp of the middle of the median's ends, to four digits, for reading; it is not enclosed\n");
+    println!("{:8} | {:58} | Boore and Atkinson 2008", "", "Idriss 2014");
+    let columns =
+        format!("{:>12} {:>12} {:>10} {:>10} {:>10}", "median low", "median high", "g, rounded", "sigma low", "sigma high");
+    println!("{:>8} | {} | {}", "period s", columns, columns);
+}
+
+fn main() {
+    // Each model has its own distance: to the rupture, and to its surface projection.
+    let idriss = Scenario { model: IDRISS, magnitude: 700, distance: 1044, velocity: 7600, mechanism: 0, period: 0 };
+    let boore_atkinson = Scenario { model: BOORE_ATKINSON, distance: 1000, ..idriss };
+    print_heading(&idriss, &boore_atkinson);
+    for period in PERIODS {
+        let name = match period {
+            0 => String::from("PGA"),
+            _ => format!("{}.{:03}", period / 1000, period % 1000),
+        };
+        let cells = [idriss, boore_atkinson].map(|scenario| cell(&Scenario { period, ..scenario }));
+        println!("{:>8} | {:58} | {}", name, cells[0], cells[1]);
+    }
+}

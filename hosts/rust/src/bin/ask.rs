@@ -1,0 +1,109 @@
+//! Answers lines of standard input through the safe wrapper, one line each, for the tests: see hosts/c/ask.c. For `null`
+//! it takes an empty slice of nothing, and the empty part at the end of some bytes.
+
+use std::fmt::Display;
+use std::io::{self, BufRead, Write};
+use std::process::ExitCode;
+
+use fusnoch::{Enclosure, Refusal, Scenario};
+
+fn take_bytes(text: &str) -> Option<Box<[u8]>> {
+    if text == "-" {
+        return Some(Box::default());
+    }
+    if text.is_empty() || text.len() % 2 != 0 || !text.bytes().all(|digit| digit.is_ascii_hexdigit()) {
+        return None;
+    }
+    (0..text.len()).step_by(2).map(|place| u8::from_str_radix(&text[place..place + 2], 16).ok()).collect()
+}
+
+/// A number that does not fit its field is no scenario.
+fn take_scenario(words: &[&str]) -> Option<Scenario> {
+    match words {
+        [model, magnitude, distance, velocity, mechanism, period] => Some(Scenario {
+            model: model.parse().ok()?,
+            magnitude: magnitude.parse().ok()?,
+            distance: distance.parse().ok()?,
+            velocity: velocity.parse().ok()?,
+            mechanism: mechanism.parse().ok()?,
+            period: period.parse().ok()?,
+        }),
+        _ => None,
+    }
+}
+
+fn show_bytes(bytes: &[u8]) -> String {
+    match bytes {
+        [] => String::from("-"),
+        _ => bytes.iter().map(|byte| format!("{:02x}", byte)).collect(),
+    }
+}
+
+/// A double that is whole is shown without a point.
+fn show_answer<End: Display>(answer: Result<Enclosure<End>, Refusal>) -> String {
+    match answer {
+        Ok(e) => format!("E {} {} {} {}", e.median_low, e.median_high, e.sigma_low, e.sigma_high),
+        Err(refusal) => format!("R {}", refusal.0),
+    }
+}
+
+fn show_reading(bytes: &[u8]) -> String {
+    match fusnoch::read(bytes) {
+        Ok((s, rest)) => format!(
+            "E {} {} {} {} {} {} {} {}",
+            s.model, s.magnitude, s.distance, s.velocity, s.mechanism, s.period, bytes.len() - rest.len(), show_bytes(rest)
+        ),
+        Err(refusal) => format!("R {} -", refusal.0),
+    }
+}
+
+fn show_writing(scenario: &Scenario, mut lent: Box<[u8]>) -> String {
+    match fusnoch::write(scenario, &mut lent) {
+        Ok(length) => format!("L {} {}", length, show_bytes(&lent)),
+        Err(refusal) => format!("R {} {}", refusal.0, show_bytes(&lent)),
+    }
+}
+
+fn number<T>(result: Result<T, Refusal>) -> u8 {
+    result.err().map_or(0, |refusal| refusal.0)
+}
+
+/// The numbers of reading, answering from a record in both ways, and writing, with no bytes.
+fn show_null(none: &mut [u8]) -> String {
+    let accepted = Scenario { model: 1, magnitude: 700, distance: 1000, velocity: 7600, mechanism: 2, period: 75 };
+    let (read, answered) = (number(fusnoch::read(none)), number(fusnoch::answer_record(none)));
+    let in_doubles = number(fusnoch::answer_record_in_doubles(none));
+    format!("{} {} {} {}", read, answered, in_doubles, number(fusnoch::write(&accepted, none)))
+}
+
+/// The answer to a line, or none where it is no question.
+fn answer(line: &str) -> Option<String> {
+    let words: Vec<&str> = line.split(' ').collect();
+    Some(match (words[0], &words[1..]) {
+        ("null", []) => format!("{} {}", show_null(&mut []), show_null(&mut [0x37; 9][9..])),
+        ("words", [number]) => Refusal(number.parse().ok()?).to_string(),
+        ("read", [bytes]) => show_reading(&take_bytes(bytes)?),
+        ("answer_record", [bytes]) => show_answer(fusnoch::answer_record(&take_bytes(bytes)?)),
+        ("doubles_record", [bytes]) => show_answer(fusnoch::answer_record_in_doubles(&take_bytes(bytes)?)),
+        ("refusal", fields) => number(fusnoch::check(&take_scenario(fields)?)).to_string(),
+        ("answer", fields) => show_answer(fusnoch::answer(&take_scenario(fields)?)),
+        ("doubles", fields) => show_answer(fusnoch::answer_in_doubles(&take_scenario(fields)?)),
+        ("write", [fields @ .., bytes]) => show_writing(&take_scenario(fields)?, take_bytes(bytes)?),
+        _ => return None,
+    })
+}
+
+fn main() -> ExitCode {
+    let mut out = io::BufWriter::new(io::stdout());
+    for line in io::stdin().lock().lines() {
+        let line = line.expect("standard input is text");
+        match answer(&line) {
+            Some(answer) => writeln!(out, "{}", answer).expect("standard output takes a line"),
+            None => {
+                eprintln!("ask: not a question: {:.200}", line);
+                return ExitCode::FAILURE;
+            }
+        }
+    }
+    ExitCode::SUCCESS
+}

@@ -1,0 +1,145 @@
+//! Ground motion with proved ends, for programs in Rust: the safe way to the engine.
+
+use std::fmt;
+
+pub const IDRISS: u8 = 1;
+pub const BOORE_ATKINSON: u8 = 2;
+
+/// The fields of a scenario, whole numbers in the units named here.
+#[repr(C)]
+#[derive(Clone, Copy, Debug, PartialEq, Eq)]
+pub struct Scenario {
+    /// 1 Idriss, 2 Boore-Atkinson
+    pub model: u8,
+    /// 0.01
+    pub magnitude: u16,
+    /// 0.01 km, to the rupture (Idriss) or to its surface projection (Boore-Atkinson)
+    pub distance: u16,
+    /// V_S30, 0.1 m/s
+    pub velocity: u16,
+    /// 0 strike-slip, 1 normal, 2 reverse, 3 reverse oblique, 4 other oblique, 9 unspecified
+    pub mechanism: u8,
+    /// 0.001 s; 0 is peak acceleration
+    pub period: u16,
+}
+
+/// Ends of the natural logarithm of the median in g and of sigma, in units of 10^-9: whole numbers or doubles.
+#[repr(C)]
+#[derive(Clone, Copy, Debug, PartialEq)]
+pub struct Enclosure<End = i64> {
+    pub median_low: End,
+    pub median_high: End,
+    pub sigma_low: End,
+    pub sigma_high: End,
+}
+
+/// The number of a refusal, 1 to 12; shown, it is the words for it.
+#[derive(Clone, Copy, Debug, PartialEq, Eq)]
+pub struct Refusal(pub u8);
+
+const WORDS: [&str; 13] = [
+    "not a refusal",
+    "model: neither 1 nor 2",
+    "magnitude: beyond the model's limits",
+    "distance: beyond the model's limits",
+    "velocity: beyond the model's limits",
+    "mechanism: not a code of the model",
+    "period: neither 0 nor tabled for the model",
+    "cut short: no map byte, or fewer bytes than the map calls for",
+    "spare bit: bit 6 or 7 stands",
+    "wanting: bit 0, 1 or 2 is clear",
+    "blank: no bit stands",
+    "plain default: a field written with its absent number",
+    "page full: lent bytes shorter than the record",
+];
+
+impl fmt::Display for Refusal {
+    fn fmt(&self, f: &mut fmt::Formatter) -> fmt::Result {
+        f.write_str(WORDS.get(usize::from(self.0)).unwrap_or(&WORDS[0]))
+    }
+}
+
+impl std::error::Error for Refusal {}
+
+/// The functions of fusnoch.h.
+mod raw {
+    use super::{Enclosure, Scenario};
+
+    #[repr(C)]
+    pub struct Answer<End> {
+        pub number: u8,
+        pub ends: Enclosure<End>,
+    }
+
+    #[repr(C)]
+    pub struct Reading {
+        pub number: u8,
+        pub scenario: Scenario,
+        pub length: usize,
+    }
+
+    #[repr(C)]
+    pub struct Writing {
+        pub number: u8,
+        pub length: usize,
+    }
+
+    extern "C" {
+        pub fn fusnoch_refusal(s: Scenario) -> u8;
+        pub fn fusnoch_answer_fields(s: Scenario) -> Answer<i64>;
+        pub fn fusnoch_answer_record(bytes: *const u8, length: usize) -> Answer<i64>;
+        pub fn fusnoch_answer_fields_in_doubles(s: Scenario) -> Answer<f64>;
+        pub fn fusnoch_answer_record_in_doubles(bytes: *const u8, length: usize) -> Answer<f64>;
+        pub fn fusnoch_read(bytes: *const u8, length: usize) -> Reading;
+        pub fn fusnoch_write(s: Scenario, out: *mut u8, length: usize) -> Writing;
+    }
+}
+
+/// The result, or the refusal if the number is that of one.
+fn unless_refused<T>(number: u8, result: T) -> Result<T, Refusal> {
+    match number {
+        0 => Ok(result),
+        _ => Err(Refusal(number)),
+    }
+}
+
+// Below, a pointer and a length always are those of one slice, of which the engine touches no other byte.
+
+/// The refusal of a scenario, without answering it.
+pub fn check(scenario: &Scenario) -> Result<(), Refusal> {
+    unless_refused(unsafe { raw::fusnoch_refusal(*scenario) }, ())
+}
+
+pub fn answer(scenario: &Scenario) -> Result<Enclosure, Refusal> {
+    let answer = unsafe { raw::fusnoch_answer_fields(*scenario) };
+    unless_refused(answer.number, answer.ends)
+}
+
+pub fn answer_record(bytes: &[u8]) -> Result<Enclosure, Refusal> {
+    let answer = unsafe { raw::fusnoch_answer_record(bytes.as_ptr(), bytes.len()) };
+    unless_refused(answer.number, answer.ends)
+}
+
+/// The ends as doubles that equal the whole numbers.
+pub fn answer_in_doubles(scenario: &Scenario) -> Result<Enclosure<f64>, Refusal> {
+    let answer = unsafe { raw::fusnoch_answer_fields_in_doubles(*scenario) };
+    unless_refused(answer.number, answer.ends)
+}
+
+pub fn answer_record_in_doubles(bytes: &[u8]) -> Result<Enclosure<f64>, Refusal> {
+    let answer = unsafe { raw::fusnoch_answer_record_in_doubles(bytes.as_ptr(), bytes.len()) };
+    unless_refused(answer.number, answer.ends)
+}
+
+/// The scenario of the record at the front of the bytes, and the bytes after it.
+pub fn read(bytes: &[u8]) -> Result<(Scenario, &[u8]), Refusal> {
+    let reading = unsafe { raw::fusnoch_read(bytes.as_ptr(), bytes.len()) };
+    unless_refused(reading.number, ())?;
+    Ok((reading.scenario, &bytes[reading.length..]))
+}
+
+/// Puts the record at the front of the lent bytes and returns its length; refused, it leaves them as they are.
+pub fn write(scenario: &Scenario, lent: &mut [u8]) -> Result<usize, Refusal> {
+    let writing = unsafe { raw::fusnoch_write(*scenario, lent.as_mut_ptr(), lent.len()) };
+    unless_refused(writing.number, writing.length)
+}
