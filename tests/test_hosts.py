@@ -88,6 +88,14 @@ def line_or_scenario(due):
     return f'R {value}' if letter == 'R' else value
 
 
+def about_scenarios(scenarios):
+    """Yield the questions for an answer to each scenario."""
+    for scenario in scenarios:
+        for name in ('answer', 'doubles'):
+            due = line_or_scenario(test_answers.due_for_scenario(scenario))
+            yield Question(test_records.text(name, *scenario), due)
+
+
 def about_bytes(name, strings):
     """Yield a question about each byte string."""
     for data in strings:
@@ -124,8 +132,7 @@ def small_questions():
              *about_records(question.line for question in test_records.writing())]
     for name in ('answer_record', 'doubles_record'):
         asked += about_bytes(name, cut)
-    for scenario in SPECTRUM.values():
-        asked += [Question(f'{name} {test_records.text(*scenario)}', scenario) for name in ('answer', 'doubles')]
+    asked += about_scenarios([*SPECTRUM.values(), *streams.WRONG.values()])
     asked += [Question(f'words {number}', words) for number, words in enumerate(WORDS, 1)]
     asked += [Question(f'words {number}', 'not a refusal') for number in (0, 13, 255)]
     return asked + [Question('null', '7 7 7 12 7 7 7 12')]
@@ -136,6 +143,7 @@ def all_questions(rng, count):
     asked = small_questions()
     asked += about_bytes('answer_record', byte_strings(rng, count))
     asked += about_bytes('doubles_record', shortest() + longest())
+    asked += about_scenarios(streams.at_limits(rng))
     for whole, doubles, _, due in test_answers.questions(rng, DRAWN):
         asked += [Question(line, line_or_scenario(due)) for line in (whole, doubles)]
     of_records = [question.line for question in test_records.questions(DRAWN, rng.randrange(2 ** 32))]
@@ -324,28 +332,47 @@ def python_calls(fusnoch):
     yield 'Refused', fusnoch.record, fusnoch.Scenario(*whole._replace(period=70))
 
 
-def check_python(path):
-    """Return the faults of Python's wrapper where the caller's mistakes are not caught by types."""
-    sys.path.insert(0, os.path.dirname(os.path.abspath(path)))
-    try:
-        fusnoch = importlib.import_module('fusnoch')
-    except (ImportError, OSError) as error:
-        return [f'Python: fusnoch.py cannot be imported: {error}']
-    faults = []
-    for due, function, *given in python_calls(fusnoch):
-        got = raised(function, *given)
-        if got != due:
-            faults.append(f'Python: {function.__name__}{tuple(given)}: {got!r}, {due!r} is due')
+def zeros_faults(library):
+    """Yield what the library's own reading hands back with a refusal besides its number; the wrappers drop it."""
+    for number, data in streams.REFUSED.items():
+        reading = library.fusnoch_read(data, len(data))
+        others = [reading.length, *(getattr(reading.scenario, name) for name, _ in streams.FIELDS)]
+        if reading.number != number or any(others):
+            yield f'fusnoch_read: {data.hex()}: {reading.number}, {others}: {number} and zeros are due'
+
+
+def page_full_fault(fusnoch):
+    """Return what is wrong with a refusal and with what the caller does next, or None."""
     lent = bytearray(b'short')
     try:
         fusnoch.write(fusnoch.Scenario(*WHOLE[IDRISS]), lent)
-        faults.append('Python: a record is written to too few bytes')
     except fusnoch.Refused as refused:
         # The caller can go on with the lent bytes.
         lent.extend(b'er')
-        if (refused.number, refused.words, str(refused), lent) != (12, WORDS[11], f'refusal 12, {WORDS[11]}', b'shorter'):
-            faults.append(f'Python: page full is refused as {refused!r}, {refused}, {lent}')
-    return faults
+        if (refused.number, refused.words, str(refused)) == (12, WORDS[11], f'refusal 12, {WORDS[11]}'):
+            return None if lent == b'shorter' else f'{lent} is left'
+    return 'page full is not refused as it should be'
+
+
+def python_faults(fusnoch):
+    """Yield the faults of Python's wrapper where no types see to the caller's mistakes."""
+    yield from zeros_faults(fusnoch.LIBRARY)
+    for due, function, *given in python_calls(fusnoch):
+        got = raised(function, *given)
+        if got != due:
+            yield f'{function.__name__}{tuple(given)}: {got!r}, {due!r} is due'
+    wrong = page_full_fault(fusnoch)
+    if wrong:
+        yield wrong
+
+
+def check_python(path):
+    """Return the faults of the wrapper beside a Python host."""
+    sys.path.insert(0, os.path.dirname(os.path.abspath(path)))
+    try:
+        return [f'Python: {fault}' for fault in python_faults(importlib.import_module('fusnoch'))]
+    except Exception as error:  # no summary would be printed
+        return [f'Python: fusnoch.py cannot be tried: {error!r}']
 
 
 # ---------------------------------------------------------------------------

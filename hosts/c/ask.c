@@ -1,5 +1,5 @@
-/* Answers lines of standard input through the safe wrapper, one line each, for the tests (bytes are hexadecimal pairs, -
-   for none; a SCENARIO is model magnitude distance velocity mechanism period):
+/* Answers lines of standard input through the safe wrapper, one line each, for the tests (bytes are hexadecimal pairs,
+   - for none; a SCENARIO is model magnitude distance velocity mechanism period):
    refusal SCENARIO       the number of the refusal, 0 for none
    read BYTES             E SCENARIO LENGTH REST, or R NUMBER REST
    write SCENARIO BYTES   L LENGTH BYTES, or R NUMBER BYTES: what is lent, and as it is afterwards

@@ -1,4 +1,4 @@
-/* Prints the spectrum of one earthquake by both models side by side: a vertical strike-slip fault that is ruptured from
+/* Prints the spectrum of one earthquake by both models side by side: a vertical strike-slip fault whose rupture begins
    3 km down, at a site 10 km beside it, so that the rupture is 10.44 km away. */
 #include <inttypes.h>
 #include <math.h>

@@ -1,5 +1,5 @@
-/* Ground motion with proved ends, for programs in C: the safe way to the functions of fusnoch.h that take a pointer, and
-   the words of the refusals.  fusnoch_refusal, fusnoch_answer_fields and fusnoch_answer_fields_in_doubles take no
+/* Ground motion with proved ends, for programs in C: the safe way to the functions of fusnoch.h that take a pointer,
+   and the words of the refusals.  fusnoch_refusal, fusnoch_answer_fields and fusnoch_answer_fields_in_doubles take no
    pointer and are called as they are.
 
    The number of a result is 0, or that of the refusal; a refused result has zeros for all else.  A null pointer counts

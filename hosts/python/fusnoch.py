@@ -7,7 +7,7 @@ repository's target/lib.
 import ctypes
 import os
 from ctypes import c_char_p, c_double, c_int64, c_size_t, c_uint8, c_uint16, c_void_p
-from dataclasses import astuple, dataclass
+from dataclasses import dataclass
 from typing import NamedTuple
 
 IDRISS = 1
@@ -132,7 +132,7 @@ def c_scenario(scenario):
     """Return a scenario as fusnoch.h has it."""
     if not isinstance(scenario, Scenario):
         raise TypeError(f'a Scenario is wanted, not {scenario!r}')
-    return _Scenario(*astuple(scenario))
+    return _Scenario(**vars(scenario))
 
 
 def _bytes(data):
@@ -141,13 +141,15 @@ def _bytes(data):
 
 
 def _unless_refused(number):
+    """Raise the refusal if the number is that of one."""
     if number != 0:
         raise Refused(number)
 
 
-def _ends(answer):
-    _unless_refused(answer.number)
-    return Enclosure(*answer.ends)
+def _ends(answered):
+    """Return the enclosure of an answer."""
+    _unless_refused(answered.number)
+    return Enclosure(*answered.ends)
 
 
 def refusal(scenario):
@@ -182,8 +184,8 @@ def read(data):
     given = _bytes(data)
     reading = LIBRARY.fusnoch_read(given, len(given))
     _unless_refused(reading.number)
-    scenario = Scenario(*(getattr(reading.scenario, name) for name, _ in _Scenario._fields_))
-    return scenario, given[reading.length:]
+    fields = {name: getattr(reading.scenario, name) for name, _ in _Scenario._fields_}
+    return Scenario(**fields), given[reading.length:]
 
 
 def write(scenario, lent):

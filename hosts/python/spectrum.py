@@ -1,7 +1,7 @@
 #!/usr/bin/env python3
 """Print the spectrum of one earthquake by both models side by side.
 
-It is a vertical strike-slip fault that is ruptured from 3 km down, at a site 10 km beside it, so that the rupture is
+It is a vertical strike-slip fault whose rupture begins 3 km down, at a site 10 km beside it, so that the rupture is
 10.44 km away.
 """
 

@@ -9,7 +9,11 @@ fn main() {
         Err(_) => PathBuf::from(package).join("../../target/lib"),
     };
     let library = directory.join("libfusnoch.a");
-    assert!(library.exists(), "{} is missing: make lib writes it, or FUSNOCH_LIB names its directory", library.display());
+    assert!(
+        library.exists(),
+        "{} is missing: make lib writes it, or FUSNOCH_LIB names its directory",
+        library.display()
+    );
     println!("cargo:rerun-if-env-changed=FUSNOCH_LIB");
     println!("cargo:rerun-if-changed={}", library.display());
     println!("cargo:rustc-link-search=native={}", directory.display());

@@ -17,7 +17,7 @@ use Rattle.scenario.specs.Lists.{among}
 use Rattle.scenario.specs.Refusal.{idriss, idrissRow}
 use Rattle.scenario.proofs.ListLaws.{all, all-at}
 use Rattle.idriss.specs.Sigma.{heldTo}
-use Rattle.idriss.specs.Periods.{periodLogarithm}
+use Rattle.idriss.specs.Periods.{listedAt, periodLogarithm}
 use Rattle.idriss.specs.Evaluation.{periodTermOf}
 
 -- the engine's ends of the size of ln T, T in thousandths
@@ -43,7 +43,7 @@ abbrev listed : ℕ → Bool
 listed t = ltb (idrissRow t) 22 && ((leb 1 t && leb t 10_000) && same (periodLogarithm t) (ownLn t))
 
 all-listed : T (all listed (idriss .periods))
-unfolding periodLogarithm idrissRow lnOf scaledOf scaledLnOf mantissaLnOf nearOneOf coarseAt fineAt leadingZeros
+unfolding periodLogarithm listedAt idrissRow lnOf scaledOf scaledLnOf mantissaLnOf nearOneOf coarseAt fineAt leadingZeros
 all-listed = tt
 
 pub period-listed : (t : ℕ) → among (idriss .periods) t ≡ true → Listed t

@@ -1,13 +1,12 @@
 -- Signs and sizes of the coefficients: one test over all rows of both tables. And the row for a period is
 -- the one that the paper prints for it.
-use mathlib.Core.Path.{_≡_, refl}
+use mathlib.Core.Path.{_≡_}
 use mathlib.Core.Bool.{Bool, true, false, cond}
-use mathlib.Core.List.{List, [], _∷_, _++_}
+use mathlib.Core.List.{List, [], _∷_}
 use Prim.Native.Nat.{ℕ, _+_, _*_, _<_}
-use native.Mathlib.Nat.{suc-add, zero-add}
 use native.Mathlib.Omega.{arith}
 use lib.Dec.{T, eqb, eqb→eq}
-use lib.ListN.{getD, length, List·getD-append}
+use lib.ListN.{getD}
 use Rattle.signed.specs.Whole.{up, down}
 use Rattle.exact.proofs.Tests.{every, every-at, allLe, AllLe, all-le}
 use Rattle.scenario.specs.Lists.{among}
@@ -15,7 +14,7 @@ use Rattle.scenario.specs.Refusal.{idriss, idrissRow}
 use Rattle.scenario.proofs.ListLaws.{all, all-at}
 use Rattle.idriss.specs.declared.table.Row as code
 use Rattle.idriss.specs.Tables.{Row, table2, table3, noRow, takesTable3, rowAt, rowFor, ownPeriod}
-use Rattle.idriss.specs.Evaluation.{parts, placeOf, TableLimits}
+use Rattle.idriss.specs.Evaluation.{parts, TableLimits}
 
 -- the limits, each as two numbers in order
 abbrev limits : Row → List (ℕ × ℕ)
@@ -81,14 +80,3 @@ unfolding rowFor
 row-printed magnitude T e =
     eqb→eq _ _ (all-at (is-printed (takesTable3 magnitude)) (0 ∷ idriss .periods) T
     (all-printed (takesTable3 magnitude)) e)
-
--- ---- the code has both tables in one array, Table 3 after Table 2
-
-after : {A : Type 0} (none : A) (xs ys : List A) (k : ℕ) → getD (xs ++ ys) (length xs + k) none ≡ getD ys k none
-after none [] ys k = rw zero-add refl
-after none (x ∷ xs) ys k = rw (suc-add (length xs) k) (after none xs ys k)
-
-pub at-place : (third : Bool) (k : ℕ) → k < 22 → getD (table2 ++ table3) (placeOf third k) noRow ≡ rowAt third k
-unfolding rowAt
-at-place true k h = after noRow table2 table3 k
-at-place false k h = List·getD-append table2 table3 noRow k h

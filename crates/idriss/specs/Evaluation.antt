@@ -1,6 +1,6 @@
 -- What median and sigma compute, in whole numbers of units of 10^-9. A change of the way of computing swaps these
 -- definitions behind their names; callers go by the laws of proofs/Laws and SigmaLaws, and never by this text.
-use mathlib.Core.Bool.{Bool, cond}
+use mathlib.Core.Bool.{cond}
 use Prim.Native.Nat.{ℕ, _+_, _*_, _-_, _≤_, min}
 use lib.Dec.{ltb}
 use Rattle.signed.specs.declared.Ends.{Ends}
@@ -32,10 +32,6 @@ parts r = record {
   9 = down (r .γ);
   10 = up (r .φ);
 }
-
--- where the code, which has Table 3 after Table 2 in one array, has row k of Table 3 where `third`, else of Table 2
-abbrev pub placeOf : Bool → ℕ → ℕ
-placeOf third k = cond third (22 + k) k
 
 -- the sizes that the evaluation rests on
 pub record RowLimits (r : code.Row) : Type 0 where

@@ -36,6 +36,10 @@ periodLogarithms =
     pair 2_302_585_092 2_302_585_094 ∷
     []
 
+-- that of the period in row k of Idriss's tables
+unfoldable pub listedAt : ℕ → Ends
+listedAt k = getD periodLogarithms k (pair 0 0)
+
 -- that of a tabled period, in thousandths of a second
 unfoldable pub periodLogarithm : ℕ → Ends
-periodLogarithm t = getD periodLogarithms (idrissRow t) (pair 0 0)
+periodLogarithm t = listedAt (idrissRow t)

@@ -2,7 +2,7 @@
 -- entry stands there.
 use mathlib.Core.Path.{_≡_, refl}
 use mathlib.Core.List.{List, [], _∷_, _++_}
-use Prim.Native.Nat.{ℕ, zero, suc, _≤_}
+use Prim.Native.Nat.{ℕ, zero, suc, _≤_, _<_}
 use native.Mathlib.Nat.{le-of-suc-le-suc, not-suc-le-zero}
 use native.Mathlib.Omega.{arith}
 use lib.ListN.{length, getD}
@@ -15,6 +15,10 @@ Missed i (suc n) = Missed i n × (i ≡ n → ⊥)
 missed : (i n : ℕ) → Missed i n → n ≤ i
 missed i zero m = omega arith
 missed i (suc n) m = omega (arith, missed i n (m .0), m .1)
+
+-- where only n is left, it is n
+pub only-last : {i : ℕ} (n : ℕ) → i < suc n → Missed i n → i ≡ n
+only-last {i = i} n h m = omega (arith, h, missed i n m)
 
 past : {A : Type 0} (d : A) (xs : List A) (i : ℕ) → length xs ≤ i → d ≡ getD (xs ++ (d ∷ [])) i d
 past d [] zero h = refl

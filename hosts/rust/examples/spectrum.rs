@@ -1,4 +1,4 @@
-//! Prints the spectrum of one earthquake by both models side by side: a vertical strike-slip fault that is ruptured from
+//! Prints the spectrum of one earthquake by both models side by side: a vertical strike-slip fault whose rupture begins
 //! 3 km down, at a site 10 km beside it, so that the rupture is 10.44 km away.
 
 use fusnoch::{Scenario, BOORE_ATKINSON, IDRISS};
@@ -45,8 +45,10 @@ fn print_heading(idriss: &Scenario, boore_atkinson: &Scenario) {
     println!("median, sigma: ends in units of 10^-9; they enclose the natural logarithm of the median in g, and sigma");
     println!("g, rounded: exp of the middle of the median's ends, to four digits, for reading; it is not enclosed\n");
     println!("{:8} | {:58} | Boore and Atkinson 2008", "", "Idriss 2014");
-    let columns =
-        format!("{:>12} {:>12} {:>10} {:>10} {:>10}", "median low", "median high", "g, rounded", "sigma low", "sigma high");
+    let columns = format!(
+        "{:>12} {:>12} {:>10} {:>10} {:>10}",
+        "median low", "median high", "g, rounded", "sigma low", "sigma high"
+    );
     println!("{:>8} | {} | {}", "period s", columns, columns);
 }
 

@@ -51,7 +51,14 @@ fn show_reading(bytes: &[u8]) -> String {
     match fusnoch::read(bytes) {
         Ok((s, rest)) => format!(
             "E {} {} {} {} {} {} {} {}",
-            s.model, s.magnitude, s.distance, s.velocity, s.mechanism, s.period, bytes.len() - rest.len(), show_bytes(rest)
+            s.model,
+            s.magnitude,
+            s.distance,
+            s.velocity,
+            s.mechanism,
+            s.period,
+            bytes.len() - rest.len(),
+            show_bytes(rest)
         ),
         Err(refusal) => format!("R {} -", refusal.0),
     }
@@ -71,9 +78,11 @@ fn number<T>(result: Result<T, Refusal>) -> u8 {
 /// The numbers of reading, answering from a record in both ways, and writing, with no bytes.
 fn show_null(none: &mut [u8]) -> String {
     let accepted = Scenario { model: 1, magnitude: 700, distance: 1000, velocity: 7600, mechanism: 2, period: 75 };
-    let (read, answered) = (number(fusnoch::read(none)), number(fusnoch::answer_record(none)));
+    let read = number(fusnoch::read(none));
+    let answered = number(fusnoch::answer_record(none));
     let in_doubles = number(fusnoch::answer_record_in_doubles(none));
-    format!("{} {} {} {}", read, answered, in_doubles, number(fusnoch::write(&accepted, none)))
+    let written = number(fusnoch::write(&accepted, none));
+    format!("{} {} {} {}", read, answered, in_doubles, written)
 }
 
 /// The answer to a line, or none where it is no question.

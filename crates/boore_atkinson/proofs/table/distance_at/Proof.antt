@@ -1,25 +1,43 @@
--- `table::distance_at` meets its contract.
-use borrow.Author.Needs.{needs}
-use lib.ListN.{List·getD-map}
+-- `table::distance_at` meets its contract: a row for each place, the last for the only place left.
+use mathlib.Core.Path.{_≡_, refl}
+use Prim.Native.Nat.{ℕ, _<_}
 use Rattle.signed.specs.Whole.{up, down}
-use Rattle.boore_atkinson.specs.Tables.{table6, rowAt}
-use Rattle.boore_atkinson.specs.Rows.{distanceParts}
+use Rattle.logarithm.proofs.Places.{only-last}
+use Rattle.boore_atkinson.specs.declared.table.DistanceRow.{DistanceRow}
+use Rattle.boore_atkinson.specs.Tables.{rowAt}
+use Rattle.boore_atkinson.specs.Rows.{distanceParts, DistanceLimits}
 use Rattle.boore_atkinson.proofs.Rows.{distance-limits}
 use Rattle.boore_atkinson.proofs.table.distance_at.Statement.{statement}
 use Rattle.boore_atkinson.proofs.table.distance_at.Tie as tie
 
-mul-result : tie.Need-mul-result
-mul-result c = search needs
-
-array-copy-out-result : tie.Need-array-copy-out-result
-array-copy-out-result c = search needs
-
-returns : tie.Need-returns
-unfolding up down rowAt
-returns c =
-    let k = c .before .args .k in
-    let same = List·getD-map distanceParts table6 k _ in
-    (same, rw same (distance-limits k (c .before .pre) .sizes))
+limited : {r : DistanceRow} (k : ℕ) → k < 22 → r ≡ distanceParts (rowAt k .distance) →
+    (r ≡ distanceParts (rowAt k .distance)) × DistanceLimits r
+limited k h same = (same, rw same (distance-limits k h .sizes))
 
 pub distance-at-spec : {M : Type 1} → statement M
-distance-at-spec = tie.close (tie.spec mul-result array-copy-out-result returns)
+unfolding rowAt up down
+distance-at-spec =
+    tie.close
+    (tie.spec
+    (λ c. limited _ (c .before .pre) (rw (c .match .keys1) refl))
+    (λ c. limited _ (c .before .pre) (rw (c .match .keys2) refl))
+    (λ c. limited _ (c .before .pre) (rw (c .match .keys3) refl))
+    (λ c. limited _ (c .before .pre) (rw (c .match .keys4) refl))
+    (λ c. limited _ (c .before .pre) (rw (c .match .keys5) refl))
+    (λ c. limited _ (c .before .pre) (rw (c .match .keys6) refl))
+    (λ c. limited _ (c .before .pre) (rw (c .match .keys7) refl))
+    (λ c. limited _ (c .before .pre) (rw (c .match .keys8) refl))
+    (λ c. limited _ (c .before .pre) (rw (c .match .keys9) refl))
+    (λ c. limited _ (c .before .pre) (rw (c .match .keys10) refl))
+    (λ c. limited _ (c .before .pre) (rw (c .match .keys11) refl))
+    (λ c. limited _ (c .before .pre) (rw (c .match .keys12) refl))
+    (λ c. limited _ (c .before .pre) (rw (c .match .keys13) refl))
+    (λ c. limited _ (c .before .pre) (rw (c .match .keys14) refl))
+    (λ c. limited _ (c .before .pre) (rw (c .match .keys15) refl))
+    (λ c. limited _ (c .before .pre) (rw (c .match .keys16) refl))
+    (λ c. limited _ (c .before .pre) (rw (c .match .keys17) refl))
+    (λ c. limited _ (c .before .pre) (rw (c .match .keys18) refl))
+    (λ c. limited _ (c .before .pre) (rw (c .match .keys19) refl))
+    (λ c. limited _ (c .before .pre) (rw (c .match .keys20) refl))
+    (λ c. limited _ (c .before .pre) (rw (c .match .keys21) refl))
+    (λ c. limited _ (c .before .pre) (rw (only-last 21 (c .before .pre) (c .match .rest)) refl)))

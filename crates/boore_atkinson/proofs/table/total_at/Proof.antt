@@ -1,20 +1,34 @@
--- `table::total_at` meets its contract.
-use borrow.Author.Needs.{needs}
-use lib.ListN.{List·getD-map}
-use Rattle.boore_atkinson.specs.Tables.{table8, totalAt}
-use Rattle.boore_atkinson.specs.Rows.{totalParts}
+-- `table::total_at` meets its contract: a row for each place, the last for the only place left.
+use mathlib.Core.Path.{refl}
+use Rattle.logarithm.proofs.Places.{only-last}
+use Rattle.boore_atkinson.specs.Tables.{totalAt}
 use Rattle.boore_atkinson.proofs.table.total_at.Statement.{statement}
 use Rattle.boore_atkinson.proofs.table.total_at.Tie as tie
 
-mul-result : tie.Need-mul-result
-mul-result c = search needs
-
-array-copy-out-result : tie.Need-array-copy-out-result
-array-copy-out-result c = search needs
-
-returns : tie.Need-returns
-unfolding totalAt
-returns c = List·getD-map totalParts table8 (c .before .args .k) _
-
 pub total-at-spec : {M : Type 1} → statement M
-total-at-spec = tie.close (tie.spec mul-result array-copy-out-result returns)
+unfolding totalAt
+total-at-spec =
+    tie.close
+    (tie.spec
+    (λ c. rw (c .match .keys1) refl)
+    (λ c. rw (c .match .keys2) refl)
+    (λ c. rw (c .match .keys3) refl)
+    (λ c. rw (c .match .keys4) refl)
+    (λ c. rw (c .match .keys5) refl)
+    (λ c. rw (c .match .keys6) refl)
+    (λ c. rw (c .match .keys7) refl)
+    (λ c. rw (c .match .keys8) refl)
+    (λ c. rw (c .match .keys9) refl)
+    (λ c. rw (c .match .keys10) refl)
+    (λ c. rw (c .match .keys11) refl)
+    (λ c. rw (c .match .keys12) refl)
+    (λ c. rw (c .match .keys13) refl)
+    (λ c. rw (c .match .keys14) refl)
+    (λ c. rw (c .match .keys15) refl)
+    (λ c. rw (c .match .keys16) refl)
+    (λ c. rw (c .match .keys17) refl)
+    (λ c. rw (c .match .keys18) refl)
+    (λ c. rw (c .match .keys19) refl)
+    (λ c. rw (c .match .keys20) refl)
+    (λ c. rw (c .match .keys21) refl)
+    (λ c. rw (only-last 21 (c .before .pre) (c .match .rest)) refl))

@@ -1,33 +1,24 @@
 -- `table::row_at` meets its contract.
-use mathlib.Core.Path.{_∙_, ap}
-use mathlib.Core.List.{_++_, map}
+use mathlib.Core.Path.{_≡_}
+use mathlib.Core.Bool.{Bool, true, false}
+use Prim.Native.Nat.{ℕ, _<_}
 use borrow.Author.Needs.{needs}
-use lib.ListN.{getD, List·getD-map}
-use Rattle.signed.specs.Whole.{up, down}
-use Rattle.idriss.specs.Tables.{table2, table3, noRow}
-use Rattle.idriss.specs.Evaluation.{parts, placeOf}
-use Rattle.idriss.proofs.Rows.{row-limits, at-place}
+use Rattle.idriss.specs.declared.table.Row.{Row}
+use Rattle.idriss.specs.Tables.{rowAt}
+use Rattle.idriss.specs.Evaluation.{parts, RowLimits}
+use Rattle.idriss.proofs.Rows.{row-limits}
 use Rattle.idriss.proofs.table.row_at.Statement.{statement}
 use Rattle.idriss.proofs.table.row_at.Tie as tie
 
-place-requires : tie.Need-place-requires
-place-requires c κs = search needs
-
-mul-result : tie.Need-mul-result
-mul-result c = search needs
-
-array-copy-out-result : tie.Need-array-copy-out-result
-array-copy-out-result c = search needs
-
-returns : tie.Need-returns
-unfolding up down
-returns c =
-    let a = c .before .before .args in
-    let h = c .before .before .pre in
-    let moved = ap (λ i. getD (map parts (table2 ++ table3)) i (parts noRow)) (c .before .place .ensures .0) in
-    let same =
-    moved ∙ List·getD-map parts (table2 ++ table3) (placeOf (a .third) (a .k)) noRow ∙ ap parts (at-place (a .third) (a .k) h) in
-    (same, rw same (row-limits (a .third) (a .k) h .sizes))
+limited : {r : Row} (third b : Bool) (k : ℕ) → k < 22 → third ≡ b → r ≡ parts (rowAt b k) →
+    (r ≡ parts (rowAt third k)) × RowLimits r
+limited third b k h e same = rw e (same, rw same (row-limits b k h .sizes))
 
 pub row-at-spec : {M : Type 1} → statement M
-row-at-spec = tie.close (tie.spec place-requires mul-result array-copy-out-result returns)
+row-at-spec =
+    tie.close
+    (tie.spec
+    (λ c κs. search needs)
+    (λ c. limited _ true _ (c .before .before .pre) (c .before .if1 .taken) (c .table-3 .ensures))
+    (λ c κs. search needs)
+    (λ c. limited _ false _ (c .before .before .pre) (c .before .if1 .left) (c .table-2 .ensures)))
