@@ -1,5 +1,5 @@
 -- The promise of an answer, for every scenario, whatever number of a check it is by: demand 3.
-use mathlib.Core.Path.{_≡_, refl}
+use mathlib.Core.Path.{_≡_, refl, sym, ap, _∙_}
 use mathlib.Core.Logic.{inl, inr}
 use Prim.Native.Nat.{ℕ, zero, suc, _≤_}
 use native.Mathlib.Omega.{arith}
@@ -12,6 +12,7 @@ use Rattle.exact.specs.Formula.{Formula, ends, Encloses}
 use Rattle.scenario.specs.declared.Scenario.{Scenario}
 use Rattle.scenario.specs.Refusal.{idriss, booreAtkinson, refusalOf}
 use Rattle.scenario.proofs.RefusalLaws.{Within, of-model}
+use Rattle.scenario.proofs.CheckLaws.{is-refused}
 use Rattle.scenario.proofs.RowLaws.{idriss-row, boore-atkinson-row}
 use Rattle.idriss.specs.Tables.{takesTable3, rowFor as idrissRowFor}
 use Rattle.idriss.specs.Evaluation.{medianOf as idrissMedianOf}
@@ -26,11 +27,13 @@ use Rattle.boore_atkinson.proofs.Accepted.{median-domain as boore-atkinson-medi
 use Rattle.boore_atkinson.proofs.Laws.{medianOf-promise as boore-atkinson-median-promise, sigmaOf-promise as boore-atkinson-sigma-promise}
 use Rattle.engine.specs.declared.Enclosure.{Enclosure}
 use Rattle.engine.specs.declared.Answer.{Answer}
+use Rattle.engine.specs.declared.Doubles.{Doubles}
 use Rattle.engine.specs.declared.DoublesAnswer.{DoublesAnswer}
+use Rattle.engine.specs.declared.DoublesAnswer.the-variants as D
 use Rattle.engine.specs.declared.Answer.the-variants as A
 use Rattle.engine.specs.Models.{median, sigma, idrissWidth, booreAtkinsonWidth, medianWidth, idrissSigmaWidth, sigmaWidth}
 use Rattle.engine.specs.Promise.{EnclosedWithin, AnswerPromise, DoublesPromise}
-use Rattle.engine.specs.Evaluation.{enclosureOf, answerBy, SmallEnclosure, SmallAnswer, doublesOf, inDoubles}
+use Rattle.engine.specs.Evaluation.{enclosureOf, answerBy, answerOf, SmallEnclosure, SmallAnswer, doublesOf, inDoubles}
 use Rattle.engine.proofs.Exact.{equals}
 
 -- ---- the four ends of an accepted scenario
@@ -140,7 +143,27 @@ module _ (s : Scenario) where
   small zero accepted = sound s (accepted refl) .small
   small (suc k) accepted = tt
 
+-- ---- the two cases of an answer from fields
+
+module _ (s : Scenario) (k : ℕ) (checked : k ≡ refusalOf s) where
+  pub fields-refused : (k ≡ 0 → ⊥) → A.Refused k ≡ answerOf s
+  unfolding answerOf answerBy
+  fields-refused some = rw (← checked) (is-refused k _ (A.Refused k) some)
+
+  pub fields-enclosed : {e : Enclosure} → k ≡ 0 → e ≡ enclosureOf s → A.Enclosed e ≡ answerOf s
+  unfolding answerOf answerBy
+  fields-enclosed none same = rw (sym checked ∙ none) (ap A.Enclosed same)
+
 -- ---- and the same in doubles
+
+pub enclosed-in-doubles : {d : Doubles} {e : Enclosure} {a : Answer} → d ≡ doublesOf e → A.Enclosed e ≡ a →
+    D.Enclosed d ≡ inDoubles a
+unfolding inDoubles
+enclosed-in-doubles same e = ap D.Enclosed same ∙ ap inDoubles e
+
+pub refused-in-doubles : {k : ℕ} {a : Answer} → A.Refused k ≡ a → D.Refused k ≡ inDoubles a
+unfolding inDoubles
+refused-in-doubles e = ap inDoubles e
 
 pub in-doubles : {k : ℕ} {s : Scenario} (a : Answer) → SmallAnswer a → AnswerPromise k s a →
     DoublesPromise k s a (inDoubles a)

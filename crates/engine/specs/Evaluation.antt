@@ -21,6 +21,18 @@ use Rattle.engine.specs.declared.DoublesAnswer.{DoublesAnswer}
 use Rattle.engine.specs.declared.DoublesAnswer.the-variants as D
 use Rattle.engine.specs.Models.{byModel}
 
+-- the scenario that has the fields
+abbrev pub scenarioWith : ℕ → ℕ → ℕ → ℕ → ℕ → ℕ → Scenario
+scenarioWith model magnitude distance velocity mechanism period =
+    record {
+      model = model;
+      magnitude = magnitude;
+      distance = distance;
+      velocity = velocity;
+      mechanism = mechanism;
+      period = period;
+    }
+
 -- ---- in whole numbers of units
 
 unfoldable pub enclosureOf : Scenario → Enclosure

@@ -6,7 +6,7 @@ ghost use lib.Signed.{mag};
 ghost use Rattle.scenario.specs.Refusal.{refusalOf};
 ghost use Rattle.record.specs.Outcome.{scenarioIn, readRefusal};
 ghost use Rattle.engine.specs.Promise.{AnswerPromise, DoublesPromise};
-ghost use Rattle.engine.specs.Evaluation.{enclosureOf, answerOf, recordAnswerOf, SmallEnclosure, SmallAnswer};
+ghost use Rattle.engine.specs.Evaluation.{scenarioWith, enclosureOf, answerOf, recordAnswerOf, SmallEnclosure};
 ghost use Rattle.engine.specs.Evaluation.{doubleOf, doublesOf, inDoubles};
 use record::Reading;
 use scenario::Scenario;
@@ -61,12 +61,27 @@ fn by_boore_atkinson(s: Scenario) -> Enclosure
     }
 }
 
-// By the scenario's own model.
-fn by_model(s: Scenario) -> Enclosure
-    requires { ⌜ refusalOf s ≡ 0 ⌝ }
-    ensures { λ r. ⌜ r ≡ enclosureOf s ⌝ }
+// By the scenario's own model. The fields pass in registers; a struct would be stored and read back by every caller.
+fn by_model(
+    model: u8,
+    magnitude: u16,
+    distance: u16,
+    velocity: u16,
+    mechanism: u8,
+    period: u16,
+) -> Enclosure
+    requires { ⌜ refusalOf (scenarioWith model magnitude distance velocity mechanism period) ≡ 0 ⌝ }
+    ensures { λ r. ⌜ r ≡ enclosureOf (scenarioWith model magnitude distance velocity mechanism period) ⌝ }
 {
-    if s.model == 1 {
+    let s = Scenario {
+        model,
+        magnitude,
+        distance,
+        velocity,
+        mechanism,
+        period,
+    };
+    if model == 1 {
         return by_idriss(s);
     }
     by_boore_atkinson(s)
@@ -81,7 +96,15 @@ pub fn answer_fields(s: Scenario) -> Answer
     if k != 0 {
         return Answer::Refused(k);
     }
-    Answer::Enclosed(by_model(s))
+    let e = by_model(
+        s.model,
+        s.magnitude,
+        s.distance,
+        s.velocity,
+        s.mechanism,
+        s.period,
+    );
+    Answer::Enclosed(e)
 }
 
 // Answers the record at the front of any bytes.
@@ -90,7 +113,14 @@ pub fn answer_record(bytes: &[u8]) -> Answer
     ensures { λ r. ⌜ AnswerPromise (readRefusal (now (bytes .entry))) (scenarioIn (now (bytes .entry))) r ⌝ }
 {
     match record::read(bytes) {
-        Reading::Read(s, _) => Answer::Enclosed(by_model(s)),
+        Reading::Read(s, _) => Answer::Enclosed(by_model(
+            s.model,
+            s.magnitude,
+            s.distance,
+            s.velocity,
+            s.mechanism,
+            s.period,
+        )),
         Reading::Refused(k) => Answer::Refused(k),
     }
 }
@@ -114,22 +144,24 @@ fn as_doubles(e: Enclosure) -> Doubles
     }
 }
 
-fn in_doubles(a: Answer) -> DoublesAnswer
-    requires { ⌜ SmallAnswer a ⌝ }
-    ensures { λ r. ⌜ r ≡ inDoubles a ⌝ }
-{
-    match a {
-        Answer::Enclosed(e) => DoublesAnswer::Enclosed(as_doubles(e)),
-        Answer::Refused(k) => DoublesAnswer::Refused(k),
-    }
-}
-
 // Answers a scenario of any fields, in doubles that equal the whole units.
 pub fn answer_fields_in_doubles(s: Scenario) -> DoublesAnswer
     ensures { λ r. ⌜ r ≡ inDoubles (answerOf s) ⌝ }
     ensures { λ r. ⌜ DoublesPromise (refusalOf s) s (answerOf s) r ⌝ }
 {
-    in_doubles(answer_fields(s))
+    let k = scenario::refusal(s);
+    if k != 0 {
+        return DoublesAnswer::Refused(k);
+    }
+    let e = by_model(
+        s.model,
+        s.magnitude,
+        s.distance,
+        s.velocity,
+        s.mechanism,
+        s.period,
+    );
+    DoublesAnswer::Enclosed(as_doubles(e))
 }
 
 // Answers the record at the front of any bytes, in doubles that equal the whole units.
@@ -137,5 +169,15 @@ pub fn answer_record_in_doubles(bytes: &[u8]) -> DoublesAnswer
     ensures { λ r. ⌜ r ≡ inDoubles (recordAnswerOf (now (bytes .entry))) ⌝ }
     ensures { λ r. ⌜ DoublesPromise (readRefusal (now (bytes .entry))) (scenarioIn (now (bytes .entry))) (recordAnswerOf (now (bytes .entry))) r ⌝ }
 {
-    in_doubles(answer_record(bytes))
+    match record::read(bytes) {
+        Reading::Read(s, _) => DoublesAnswer::Enclosed(as_doubles(by_model(
+            s.model,
+            s.magnitude,
+            s.distance,
+            s.velocity,
+            s.mechanism,
+            s.period,
+        ))),
+        Reading::Refused(k) => DoublesAnswer::Refused(k),
+    }
 }

@@ -1,24 +1,35 @@
 -- `answer_fields_in_doubles` meets its contract.
-use mathlib.Core.Path.{_∙_, ap}
+use mathlib.Core.Path.{sym, _∙_}
 use borrow.Author.Needs.{needs}
 use Rattle.scenario.specs.Refusal.{refusalOf}
-use Rattle.engine.specs.Evaluation.{answerOf, inDoubles}
-use Rattle.engine.proofs.Laws.{small, doubles-answers}
+use Rattle.engine.specs.Evaluation.{answerOf}
+use Rattle.engine.proofs.Laws.{sound, fields-refused, fields-enclosed, enclosed-in-doubles, refused-in-doubles, doubles-answers}
 use Rattle.engine.proofs.answer_fields_in_doubles.Statement.{statement}
 use Rattle.engine.proofs.answer_fields_in_doubles.Tie as tie
 
-all-small : tie.Need-in-doubles-requires
+refused : tie.Need-returns
 unfolding answerOf
-all-small c κs =
-    let s = c .before .args .s in
-    rw (c .answer-fields .ensures .0) (small s (refusalOf s) (λ e. e))
-
-returns : tie.Need-returns
-unfolding answerOf
-returns c =
-    let s = c .before .before .args .s in
+refused c =
+    let k = c .before in
+    let s = k .before .args .s in
     doubles-answers s (refusalOf s) (λ e. e)
-    (c .in-doubles .ensures ∙ ap inDoubles (c .before .answer-fields .ensures .0))
+    (refused-in-doubles (fields-refused s (k .refusal .result) (k .refusal .ensures) (c .if1 .taken)))
+
+small : tie.Need-as-doubles-requires
+small c κs =
+    let k = c .before .before in
+    rw (c .by-model .ensures) (sound (k .before .args .s) (sym (k .refusal .ensures) ∙ c .before .if1 .left) .small)
+
+enclosed : tie.Need-returns-2
+unfolding answerOf
+enclosed c =
+    let m = c .before in
+    let k = m .before .before in
+    let s = k .before .args .s in
+    doubles-answers s (refusalOf s) (λ e. e)
+    (enclosed-in-doubles (c .as-doubles .ensures)
+    (fields-enclosed s (k .refusal .result) (k .refusal .ensures) (m .before .if1 .left) (m .by-model .ensures)))
 
 pub answer-fields-in-doubles-spec : {M : Type 1} → statement M
-answer-fields-in-doubles-spec = tie.close (tie.spec (λ c κs. search needs) all-small returns)
+answer-fields-in-doubles-spec =
+    tie.close (tie.spec (λ c κs. search needs) refused (λ c κs. search needs) small enclosed)

@@ -1,26 +1,53 @@
 -- `answer_record_in_doubles` meets its contract.
-use mathlib.Core.Path.{_∙_, ap}
+use mathlib.Core.Path.{_∙_, ap, sym}
 use borrow.Author.Needs.{needs}
 use denote.Ref.{now}
 use Rattle.record.specs.Outcome.{scenarioIn, readRefusal}
-use Rattle.engine.specs.Evaluation.{recordAnswerOf, inDoubles}
-use Rattle.engine.proofs.Laws.{small, doubles-answers}
-use Rattle.engine.proofs.RecordLaws.{read-accepted}
+use Rattle.record.proofs.ReadingLaws.{read-as}
+use Rattle.engine.specs.declared.Answer.the-variants as A
+use Rattle.engine.specs.Evaluation.{recordAnswerOf}
+use Rattle.engine.proofs.Laws.{sound, enclosed-in-doubles, refused-in-doubles, doubles-answers}
+use Rattle.engine.proofs.RecordLaws.{read-accepted, record-enclosed, record-refused}
 use Rattle.engine.proofs.answer_record_in_doubles.Statement.{statement}
 use Rattle.engine.proofs.answer_record_in_doubles.Tie as tie
 
-all-small : tie.Need-in-doubles-requires
-unfolding recordAnswerOf
-all-small c κs =
-    let s = now (c .before .before .args .bytes) in
-    rw (c .answer-record .ensures .0) (small (scenarioIn s) (readRefusal s) (read-accepted s))
+accepted : tie.Need-by-model-requires
+accepted c κs =
+    let r = read-as _ _ _ (sym (c .before .before .before .read .ensures .0) ∙ c .before .s .given .1) in
+    rw (r .scenario) at (r .passes .taken)
 
-returns : tie.Need-returns
+small : tie.Need-as-doubles-requires
+small c κs =
+    let k = c .before .before in
+    let r = read-as _ _ _ (sym (k .before .before .read .ensures .0) ∙ k .s .given .1) in
+    rw (c .by-model .ensures) (sound _ (rw (r .scenario) at (r .passes .taken)) .small)
+
+enclosed : tie.Need-returns
 unfolding recordAnswerOf
-returns c =
-    let s = now (c .before .before .before .args .bytes) in
+enclosed c =
+    let m = c .before in
+    let k = m .before .before .before .before in
+    let s = now (k .before .before .args .bytes) in
     doubles-answers (scenarioIn s) (readRefusal s) (read-accepted s)
-    (c .in-doubles .ensures ∙ ap inDoubles (c .before .answer-record .ensures .0))
+    (enclosed-in-doubles (c .as-doubles .ensures) (ap A.Enclosed (m .by-model .ensures)
+    ∙ record-enclosed s _ _ (sym (k .read .ensures .0) ∙ m .before .before .s .given .1)))
+
+refused : tie.Need-returns-2
+unfolding recordAnswerOf
+refused c =
+    let k = c .before .before .before in
+    let s = now (k .before .before .args .bytes) in
+    doubles-answers (scenarioIn s) (readRefusal s) (read-accepted s)
+    (refused-in-doubles (record-refused s _ (sym (k .read .ensures .0) ∙ c .before .k .given .1)))
 
 pub answer-record-in-doubles-spec : {M : Type 1} → statement M
-answer-record-in-doubles-spec = tie.close (tie.spec (λ c κs. search needs) all-small returns)
+answer-record-in-doubles-spec =
+    tie.close
+    (tie.spec
+    (λ c κs. search needs)
+    (λ c. search needs)
+    accepted
+    small
+    (λ c. search needs)
+    enclosed
+    refused)

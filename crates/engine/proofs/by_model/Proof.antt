@@ -8,8 +8,8 @@ use Rattle.engine.proofs.by_model.Tie as tie
 
 second : tie.Need-by-boore-atkinson-requires
 second c κs =
-    let k = c .before .before in
-    elim (of-model (k .args .s) (k .pre)) [
+    let k = c .before in
+    elim (of-model _ (k .pre)) [
       | inl p ↦ absurd (omega (arith, p .0, c .if1 .left))
       | inr p ↦ (p .0, k .pre)
     ]
