@@ -1,10 +1,11 @@
 -- What the code puts together is what the evaluation has.
 use mathlib.Core.Path.{_≡_, refl}
-use mathlib.Core.Bool.{cond}
+use mathlib.Core.Bool.{Bool, true, false, cond}
 use Prim.Native.Nat.{ℕ, _+_, _*_, _-_, _/_, _≤_, _<_, min, max}
+use native.Mathlib.Nat.{zero-mul}
 use native.Mathlib.Omega.{arith}
 use borrow.Author.Tests.{le-leb, lt-leb, lt-ltb, le-ltb}
-use lib.Dec.{eqb}
+use lib.Dec.{eqb, leb, leb→le}
 use Rattle.signed.specs.Evaluation.{betweenOf}
 use Rattle.logarithm.specs.declared.Ends.{Ends}
 use Rattle.logarithm.specs.Evaluation.{lnOf, rootOf}
@@ -20,7 +21,7 @@ use Rattle.boore_atkinson.specs.Tables.{Total, Row, pga}
 use Rattle.boore_atkinson.specs.Rock.{sumOfSquares}
 use Rattle.boore_atkinson.specs.Rows.{siteParts, distanceParts, magnitudeParts, totalParts}
 use Rattle.boore_atkinson.specs.Constants.{minusLnLow, minusLnA1, minusLnA2, overSlow, overFast, cOver, dOver}
-use Rattle.boore_atkinson.specs.Evaluation.{exactly, kmOf, effectiveOf, spreadOf, fallOf, levelOf, magnitudeOf, rockOf, belowOf, linearOf, slowSlopeOf, fastSlopeOf, slopeOf, zOf, cubicOf, branchOf, curveOf, nonlinearOf, endsOf, plusOf, medianOf, sigmaOf}
+use Rattle.boore_atkinson.specs.Evaluation.{exactly, kmOf, effectiveOf, spreadOf, fallOf, levelOf, magnitudeOf, rockOf, belowOf, belowFor, linearOf, slowSlopeOf, fastSlopeOf, slopeOf, zOf, cubicOf, branchOf, curveOf, nonlinearOf, endsOf, plusOf, medianOf, sigmaOf}
 
 pub effective-is : (d h : ℕ) {k : ℕ} {e : Ends} → k ≡ rootOf (sumOfSquares d h) → e ≡ lnOf (sumOfSquares d h) 10_000 →
     record { ln = e; km = record { low = k * 78_125 / 1_024; high = (k + 1) * 78_125 / 1_024 + 1 } } ≡ effectiveOf d h
@@ -141,6 +142,27 @@ pub nonlinear-is : (s : SiteRow) (v : ℕ) (b : Ends) {n q gain loss : Ends} →
 unfolding nonlinearOf
 nonlinear-is s v b n q gain loss = rw (gain, loss, n, q) refl
 
+-- a slope of 0 leaves nothing of what it is multiplied by
+product-of-none : (q : Ends) → productOf (exactly 0) q ≡ record { low = 0; high = 1 }
+unfolding productOf
+product-of-none q = rw (zero-mul (q .low), zero-mul (q .high)) refl
+
+-- from 760 m/s on the nonlinear part is the same for every p
+flat : (s : SiteRow) (v : ℕ) (b c : Ends) → 7_600 ≤ v → nonlinearOf s v b ≡ nonlinearOf s v c
+unfolding nonlinearOf
+flat s v b c h =
+    let none = slope-from-760 s v (omega (arith, h)) (omega (arith, h)) h refl in
+    rw (← none, product-of-none (curveOf b), product-of-none (curveOf c)) refl
+
+pub below-for : (s : SiteRow) (v m d mechanism : ℕ) →
+    nonlinearOf s v (belowFor v m d mechanism) ≡ nonlinearOf s v (belowOf m d mechanism)
+unfolding belowFor
+below-for s v m d mechanism = go (leb 7_600 v) refl where
+  go : (t : Bool) → leb 7_600 v ≡ t → nonlinearOf s v (cond t (exactly 0) (belowOf m d mechanism))
+      ≡ nonlinearOf s v (belowOf m d mechanism)
+  go true e = flat s v (exactly 0) (belowOf m d mechanism) (leb→le 7_600 v (rw e tt))
+  go false e = refl
+
 -- ---- the sum
 
 pub median-is : (r : Row) (m d v mechanism : ℕ) {c : DistanceRow} {q : MagnitudeRow} {s : SiteRow} {effective :
@@ -148,11 +170,11 @@ pub median-is : (r : Row) (m d v mechanism : ℕ) {c : DistanceRow} {q : Magnitu
     {rock linear nonlinear : Motion} → c ≡ distanceParts (r .distance) → q ≡ magnitudeParts (r .magnitude) →
     s ≡ siteParts (r .site) → effective ≡ effectiveOf d (c .4) → rock ≡ rockOf c q m effective mechanism →
     linear ≡ linearOf s v →
-    b ≡ belowOf m d mechanism → nonlinear ≡ nonlinearOf s v b →
+    b ≡ belowFor v m d mechanism → nonlinear ≡ nonlinearOf s v b →
     endsOf (plusOf (plusOf rock linear) nonlinear) ≡ medianOf r m d v mechanism
 unfolding medianOf
-median-is r m d v mechanism c q s effective rock linear b nonlinear =
-    rw (rock, linear, nonlinear, effective, b, c, q, s) refl
+median-is r m d v mechanism {s = row} c q s effective rock linear b nonlinear =
+    rw (rock, linear, nonlinear, effective, b, below-for row v m d mechanism, c, q, s) refl
 
 pub sigma-is : (t : Total) (mechanism : ℕ) {r : TotalRow} {z : ℕ} → r ≡ totalParts t → z ≡ cond (eqb mechanism 9) (r .0)
     (r .1) →

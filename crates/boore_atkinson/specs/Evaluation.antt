@@ -126,6 +126,10 @@ nonlinearOf s v b =
     let n : Ends = slopeOf s v in
     record { gain = productOf n minusLnLow; loss = productOf n (curveOf b) }
 
+-- −p as the median rests on it: from 760 m/s on the slope is 0, and nothing depends on p
+unfoldable pub belowFor : ℕ → ℕ → ℕ → ℕ → Ends
+belowFor v m d mechanism = cond (leb 7_600 v) (exactly 0) (belowOf m d mechanism)
+
 -- ---- sums
 
 unfoldable pub endsOf : Motion → signed.Ends

@@ -57,7 +57,7 @@ pub fn median(
     let motion = rock::rock(row, table::magnitude_at(k), m, effective, mechanism);
     let s = table::site_at(k);
     let linear = site::linear(s, v);
-    let nonlinear = site::nonlinear_part(s, v, rock::below(m, d, mechanism));
+    let nonlinear = site::nonlinear_part(s, v, rock::below_for(v, m, d, mechanism));
     ends(plus(plus(motion, linear), nonlinear))
 }
 

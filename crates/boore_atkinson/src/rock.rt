@@ -3,7 +3,7 @@ ghost use mathlib.Core.Path.{_≡_};
 ghost use Prim.Native.Nat.{_≤_, _+_, _*_};
 ghost use Rattle.outward.specs.Evaluation.{Sized};
 ghost use Rattle.boore_atkinson.specs.Rows.{DistanceLimits, MagnitudeLimits};
-ghost use Rattle.boore_atkinson.specs.Evaluation.{effectiveOf, spreadOf, fallOf, levelOf, magnitudeOf, rockOf, belowOf};
+ghost use Rattle.boore_atkinson.specs.Evaluation.{effectiveOf, spreadOf, fallOf, levelOf, magnitudeOf, rockOf, belowOf, belowFor};
 ghost use Rattle.boore_atkinson.specs.Sizes.{EffectiveSized, MagnitudeBounds, Small, MotionSized};
 use crate::Motion;
 use crate::table;
@@ -136,4 +136,15 @@ pub fn below(m: u64, projection_distance: u64, mechanism: u8) -> Ends
         low: a.loss.low - a.gain.low,
         high: a.loss.high - a.gain.low,
     }
+}
+
+// −p as the median rests on it: from 760 m/s on the slope is 0, p has no part in it, and 0 stands for −p.
+pub fn below_for(v: u64, m: u64, projection_distance: u64, mechanism: u8) -> Ends
+    requires { ⌜ (500 ≤ m) × (m ≤ 800) × («projection_distance» ≤ 19_999) ⌝ }
+    ensures { λ b. ⌜ (b ≡ belowFor v m «projection_distance» mechanism) × Sized b 4 80_000_000_000 ⌝ }
+{
+    if 7_600 <= v {
+        return Ends { low: 0, high: 0 };
+    }
+    below(m, projection_distance, mechanism)
 }

@@ -30,8 +30,8 @@ site-at-requires c κs = search needs
 linear-requires : tie.Need-linear-requires
 linear-requires c κs = search needs
 
-below-requires : tie.Need-below-requires
-below-requires c κs = search needs
+below-for-requires : tie.Need-below-for-requires
+below-for-requires c κs = search needs
 
 nonlinear-part-requires : tie.Need-nonlinear-part-requires
 nonlinear-part-requires c κs = search needs
@@ -70,7 +70,7 @@ returns c =
     (c .before .before .before .before .before .before .before .before .before .effective-distance .ensures .0)
     (c .before .before .before .before .before .before .before .rock .ensures .0)
     (c .before .before .before .before .before .linear .ensures .0)
-    (c .before .before .before .before .below .ensures .0) (n .ensures .0)
+    (c .before .before .before .before .below-for .ensures .0) (n .ensures .0)
 
 pub median-spec : {M : Type 1} → statement M
 median-spec =
@@ -83,7 +83,7 @@ median-spec =
     rock-requires
     site-at-requires
     linear-requires
-    below-requires
+    below-for-requires
     nonlinear-part-requires
     plus-requires
     plus-requires-2
