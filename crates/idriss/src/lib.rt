@@ -67,7 +67,7 @@ fn distance_term(r: Row, m: u64, rupture_distance: u64) -> logarithm::Ends
     ensures { λ e. ⌜ (e ≡ distanceTermOf r m «rupture_distance») × Sized e 5 42_000_000_001 ⌝ }
 {
     let factor = 2_000 * r.6 as u64 - 20 * (r.7 as u64 * m);
-    outward::multiple(factor, logarithm::ln(rupture_distance + 1_000, 100))
+    outward::multiple(factor, logarithm::ln_hundredths(rupture_distance + 1_000))
 }
 
 // −ξ ln V; a V above 1200 m/s counts as 1200.

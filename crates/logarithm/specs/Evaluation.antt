@@ -13,12 +13,16 @@ use Rattle.logarithm.specs.Promise.{rootFineness}
 
 -- ---- ln(a/b), in units of 10^-9/4096 till the end, each part from below
 
--- a/b as mantissa 2^octave / 2^35, rounded down
+-- mantissa 2^octave / 2^35
+abbrev pub scaledBy : ℕ → ℕ → Scaled
+scaledBy octave mantissa = record { octave = octave; mantissa = mantissa }
+
+-- a/b so, rounded down
 unfoldable pub scaledOf : ℕ → ℕ → Scaled
 scaledOf a b =
     let x : ℕ = a * 2 ^ 35 / b in
     let k : ℕ = 28 - leadingZeros 64 x in
-    record { octave = k; mantissa = x / 2 ^ k }
+    scaledBy k (x / 2 ^ k)
 
 -- the mantissas that it gives, and the scaled numbers
 pub record Mantissa (y : ℕ) : Type 0 where

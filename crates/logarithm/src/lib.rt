@@ -4,7 +4,7 @@ ghost use Prim.Native.Nat.{_^_, _<_};
 ghost use Rattle.exact.specs.Root.{wholeRoot};
 ghost use Rattle.logarithm.specs.Promise.{LnDomain};
 ghost use Rattle.logarithm.specs.Evaluation.{Mantissa, Normal, NearOne};
-ghost use Rattle.logarithm.specs.Evaluation.{scaledOf, nearOneOf, mantissaLnOf, scaledLnOf, lnOf, rootOf};
+ghost use Rattle.logarithm.specs.Evaluation.{scaledBy, scaledOf, nearOneOf, mantissaLnOf, scaledLnOf, lnOf, rootOf};
 
 mod table;
 
@@ -55,15 +55,15 @@ fn mantissa_ln(y: u64) -> u64
     coarse.logarithm + fine.logarithm + rest
 }
 
-// The ends of a scaled number's logarithm.
-fn scaled_ln(s: Scaled) -> Ends
-    requires { ⌜ Normal s ⌝ }
-    ensures { λ r. ⌜ r ≡ scaledLnOf s ⌝ }
+// The ends of a scaled number's logarithm; its two parts pass in registers.
+fn scaled_ln(octave: u64, mantissa: u64) -> Ends
+    requires { ⌜ Normal (scaledBy octave mantissa) ⌝ }
+    ensures { λ r. ⌜ r ≡ scaledLnOf (scaledBy octave mantissa) ⌝ }
 {
-    let sum = s.octave * table::LN_2 + mantissa_ln(s.mantissa);
+    let sum = octave * table::LN_2 + mantissa_ln(mantissa);
     Ends {
         low: sum / 4_096,
-        high: (sum + 23 * s.octave + 4_304) / 4_096,
+        high: (sum + 23 * octave + 4_304) / 4_096,
     }
 }
 
@@ -75,7 +75,17 @@ pub fn ln(a: u64, b: u64) -> Ends
     if a == b {
         return Ends { low: 0, high: 0 };
     }
-    scaled_ln(scale(a, b))
+    let s = scale(a, b);
+    scaled_ln(s.octave, s.mantissa)
+}
+
+// ln(a/100), for 100 < a < 2^29, as ln(a, 100) has it. The divisor is known here, so that no division is needed.
+pub fn ln_hundredths(a: u64) -> Ends
+    requires { ⌜ LnDomain a 100 × (100 < a) ⌝ }
+    ensures { λ r. ⌜ r ≡ lnOf a 100 ⌝ }
+{
+    let s = scale(a, 100);
+    scaled_ln(s.octave, s.mantissa)
 }
 
 // The greatest whole number whose square is at most n, by Newton's steps down from above.

@@ -29,24 +29,24 @@ mul-factor-3 c =
 sub-factor : tie.Need-sub-factor
 sub-factor c = let p = c .before .before .pre in beta-bounds (p .0) (p .1) (p .2) .order
 
-add-ln : tie.Need-add-ln
-add-ln c = search needs
+add-ln-hundredths : tie.Need-add-ln-hundredths
+add-ln-hundredths c = search needs
 
-ln-requires : tie.Need-ln-requires
-ln-requires c κs = search needs
+ln-hundredths-requires : tie.Need-ln-hundredths-requires
+ln-hundredths-requires c κs = search needs
 
 multiple-requires : tie.Need-multiple-requires
 unfolding betaOf
 multiple-requires c κs =
     let p = c .before .before .before .pre in
-    rw (c .ln .ensures) (multiple-takes _ (ln-sized (far-domain (p .3)))
+    rw (c .ln-hundredths .ensures) (multiple-takes _ (ln-sized (far-domain (p .3)))
     (omega (arith, beta-bounds (p .0) (p .1) (p .2) .small)))
 
 returns : tie.Need-returns
 unfolding distanceTermOf betaOf
 returns c =
     let p = c .before .before .before .before .pre in
-    let e = c .multiple .ensures ∙ ap (multipleOf _) (c .before .ln .ensures) in
+    let e = c .multiple .ensures ∙ ap (multipleOf _) (c .before .ln-hundredths .ensures) in
     (e, rw e (distance-sized (p .0) (p .1) (p .2) (p .3)))
 
 pub distance-term-spec : {M : Type 1} → statement M
@@ -59,7 +59,7 @@ distance-term-spec =
     mul-factor-2
     mul-factor-3
     sub-factor
-    add-ln
-    ln-requires
+    add-ln-hundredths
+    ln-hundredths-requires
     multiple-requires
     returns)

@@ -8,7 +8,7 @@ use Rattle.logarithm.proofs.scaled_ln.Statement.{statement}
 use Rattle.logarithm.proofs.scaled_ln.Tie as tie
 
 small : (c : tie.After-mantissa-ln) → c .mantissa-ln .result ≤ 5_680_000_000_000
-small c = rw (c .mantissa-ln .ensures) (mantissa-ln (c .before .before .pre .mantissa) .small)
+small c = rw (c .mantissa-ln .ensures) (mantissa-ln (c .before .pre .mantissa) .small)
 
 mul-sum : tie.Need-mul-sum
 mul-sum c = search needs
@@ -19,19 +19,19 @@ mantissa-ln-requires c κs = search needs
 add-sum : tie.Need-add-sum
 add-sum c = omega (arith, small c)
 
-mul-t4 : tie.Need-mul-t4
-mul-t4 c = search needs
-
-add-t5 : tie.Need-add-t5
-add-t5 c = omega (arith, small (c .before))
+mul-t5 : tie.Need-mul-t5
+mul-t5 c = search needs
 
 add-t6 : tie.Need-add-t6
-add-t6 c = omega (arith, small (c .before))
+add-t6 c = omega (arith, small c)
+
+add-t7 : tie.Need-add-t7
+add-t7 c = omega (arith, small c)
 
 returns : tie.Need-returns
 unfolding scaledLnOf
-returns c = rw (c .before .mantissa-ln .ensures)
+returns c = rw (c .mantissa-ln .ensures)
 
 pub scaled-ln-spec : {M : Type 1} → statement M
 scaled-ln-spec =
-    tie.close (tie.spec mul-sum mantissa-ln-requires add-sum mul-t4 add-t5 add-t6 returns)
+    tie.close (tie.spec mul-sum mantissa-ln-requires add-sum mul-t5 add-t6 add-t7 returns)
