@@ -1,19 +1,28 @@
-# make run     proves the program and prints the enclosures of a sample file
-# make test    all that the gate runs; its last line is 'N passed, 0 failed'
-# make longer  the test of the program on many more records
+# make run       proves the program and prints the enclosures of a sample file
+# make test      all that the gate runs; its last line is 'N passed, 0 failed'
+# make lib       proves the library for C, Rust and Python and writes it to target/lib, with its header
+# make examples  prints a spectrum by way of C, of Rust and of Python
+# make bench     measures the library beside plain C doubles and Arb
+# make longer    the test of the program on many more records
 
 export PATH := $(PATH):/opt/rattle/bin
 export PYTHONDONTWRITEBYTECODE := 1
 SHELL := /bin/bash
 CC := gcc
+WARN := -Wall -Wextra -Werror
 PROBE := target/tests/probe
 PROGRAM := target/bin/enclosures
 SAMPLE := tests/streams/sample
 LIB := target/lib
+# What the hosts' programs are, in C, Rust and Python: one answers the tests' questions, one prints a spectrum.
+ASKS := target/hosts/c/ask target/hosts/rust/release/ask hosts/python/ask.py
+SPECTRA := target/hosts/c/spectrum target/hosts/rust/release/examples/spectrum hosts/python/spectrum.py
+BENCH := target/bench/bench
 # rt keeps what it has proved in target, so that two of it at a time would disturb each other there.
 ALONE := flock target/tests/lock
 
-.PHONY: run test longer definitions outside test_logarithm test_records test_models test_answers test_enclosures probe program need
+.PHONY: run test lib examples bench longer definitions outside hosts probe program need need_hosts need_bench
+.PHONY: test_logarithm test_records test_models test_answers test_enclosures test_hosts
 .SILENT:
 
 run: program
@@ -29,8 +38,19 @@ test: definitions
 longer: program
 	python3 tests/test_enclosures.py $(PROGRAM) 1000000 2008
 
+examples: hosts
+	for spectrum in $(SPECTRA); do echo "$$spectrum"; echo; $$spectrum || exit 1; echo; done
+
+# The nanoseconds depend on the machine and on what else it does; the instructions do not.
+bench: lib need_bench
+	mkdir -p $(dir $(BENCH))
+	$(CC) -O3 -std=c11 $(WARN) -D_GNU_SOURCE -I$(LIB) -o $(BENCH) bench/*.c $(LIB)/libfusnoch.a -lm -lflint-arb -lflint
+	$(BENCH)
+	echo
+	bench/instructions $(BENCH)
+
 # The tests outside Rattle of what the definitions say, and of the programs.
-definitions: need
+definitions: need_hosts
 	tools/logarithm_tables.py --check
 	python3 tests/test_exact.py
 	python3 tests/test_values.py
@@ -38,10 +58,19 @@ definitions: need
 	cmp $(SAMPLE).stdin crates/enclosures/stdin
 	cmp $(SAMPLE).stdout crates/enclosures/stdout
 
-outside: test_logarithm test_records test_models test_answers test_enclosures
+outside: test_logarithm test_records test_models test_answers test_enclosures test_hosts
 
-test_logarithm test_records test_models test_answers: test_%: probe
+test_logarithm test_models: test_%: probe
 	python3 tests/$@.py $(PROBE)
+
+test_records: probe hosts
+	python3 tests/$@.py $(firstword $(ASKS)) $(PROBE)
+
+test_answers: hosts
+	python3 tests/$@.py $(firstword $(ASKS))
+
+test_hosts: hosts
+	python3 tests/$@.py $(ASKS) $(SPECTRA)
 
 test_enclosures: program
 	python3 tests/$@.py $(PROGRAM)
@@ -54,15 +83,23 @@ lib: need
 	$(CC) -shared -o $(LIB)/libfusnoch.so -Wl,--whole-archive $(LIB)/libfusnoch.a -Wl,--no-whole-archive
 	tools/header crates/host/src/lib.rt > $(LIB)/fusnoch.h
 
+# The hosts' programs; cargo finds its settings from the directory it runs in.
+hosts: lib need_hosts
+	mkdir -p target/hosts/c
+	for program in ask spectrum; do \
+	    $(CC) -O2 -std=c99 $(WARN) -I$(LIB) -o target/hosts/c/$$program hosts/c/$$program.c hosts/c/ground_motion.c \
+	        $(LIB)/libfusnoch.a -lm || exit 1; \
+	done
+	cd hosts/rust && cargo build --quiet --offline --release --bins --examples
+
 # A program over the proved libraries, for the tests.
 probe: need
 	mkdir -p target/tests
-	for library in probe record_probe model_probe engine_probe; do \
+	for library in probe record_probe model_probe; do \
 	    $(ALONE) rt staticlib $$library > target/tests/$$library.log 2>&1 || { cat target/tests/$$library.log; exit 1; }; \
 	done
-	$(CC) -O2 -Wall -Wextra -Werror -std=c99 -o $(PROBE) tests/probe.c \
-	    target/staticlib/libprobe.a target/staticlib/librecord_probe.a target/staticlib/libmodel_probe.a \
-	    target/staticlib/libengine_probe.a
+	$(CC) -O2 -std=c99 $(WARN) -o $(PROBE) tests/probe.c \
+	    target/staticlib/libprobe.a target/staticlib/librecord_probe.a target/staticlib/libmodel_probe.a
 
 # The program, proved.
 program: need
@@ -71,3 +108,9 @@ program: need
 
 need:
 	tools/need
+
+need_hosts:
+	tools/need hosts
+
+need_bench:
+	tools/need bench

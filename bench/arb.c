@@ -1,16 +1,8 @@
 /* The peer in Arb: both models over balls of 64 bits, which enclose the value as our engine's ends do.
-   Coefficients and constants become balls once, and all balls that an answer needs are made once.  Coefficients that
-   meet a field are divided beforehand by the field's unit, so that they take its whole number. */
+   Coefficients and constants become balls once, and all balls that an answer needs are made once.  The parts that can
+   be done term by term or tuned are in arb_terms.c and arb_tuned.c; all the rest is here. */
 
-#include "peers.h"
-#include "tables.h"
-
-enum { BITS = 64 };
-
-enum { A1, A2, A3, B1, B2, XI, GAMMA, PHI, IDRISS_COLUMNS };
-/* The columns that a magnitude up to the hinge takes stand together, and so do those that one above it takes. */
-enum { E5, E6, C1, C2, C3, E7, E1, BLIN = E1 + 4, B1_SITE, B2_SITE, UNSPECIFIED, SPECIFIED, BOORE_ATKINSON_COLUMNS };
-enum { UP_TO_HINGE = E7 - E5, ABOVE_HINGE = E1 - C1 };
+#include "arb_shared.h"
 
 #define PERIOD(period, ...) period,
 static const uint16_t IDRISS_PERIODS[ROWS] = {IDRISS_TABLE_2(PERIOD)};
@@ -23,34 +15,33 @@ static const char *const IDRISS_TEXT[2][ROWS][IDRISS_COLUMNS] = {{IDRISS_TABLE_2
     {#e5, #e6, #c1, #c2, #c3, #e7, #e1, #e2, #e3, #e4, #blin, #b1, #b2, #unspecified, #specified},
 static const char *const BOORE_ATKINSON_TEXT[ROWS][BOORE_ATKINSON_COLUMNS] = {BOORE_ATKINSON_TABLES(TEXT)};
 
-/* h in hundredths of a kilometre and the hinge magnitude in hundredths are whole numbers. */
 #define H(period, blin, b1, b2, c1, c2, c3, h, ...) (ulong)(100 * h + 0.5),
-static const ulong H_HUNDREDTHS[ROWS] = {BOORE_ATKINSON_TABLES(H)};
+const ulong H_HUNDREDTHS[ROWS] = {BOORE_ATKINSON_TABLES(H)};
 #define HINGE(period, blin, b1, b2, c1, c2, c3, h, e1, e2, e3, e4, e5, e6, e7, hinge, ...) (slong)(100 * hinge + 0.5),
-static const slong HINGE_HUNDREDTHS[ROWS] = {BOORE_ATKINSON_TABLES(HINGE)};
+const slong HINGE_HUNDREDTHS[ROWS] = {BOORE_ATKINSON_TABLES(HINGE)};
 
 /* What each column is divided by: 1, or the units of its field in one. */
 static const ulong IDRISS_UNITS[IDRISS_COLUMNS] = {1, 100, 10000, 1, 100, 1, 100, 1};
 static const ulong BOORE_ATKINSON_UNITS[BOORE_ATKINSON_COLUMNS] = {100, 10000, 1, 100, 100, 100, 1, 1, 1, 1, 1, 1, 1,
                                                                    1, 1};
 
-/* Which of e1 to e4 a mechanism code takes. */
-static const uint8_t E_OF_CODE[10] = {[0] = E1 + 1, [1] = E1 + 2, [2] = E1 + 3, [3] = E1 + 3, [9] = E1};
+const uint8_t E_OF_CODE[10] = {[0] = E1 + 1, [1] = E1 + 2, [2] = E1 + 3, [3] = E1 + 3, [9] = E1};
 
+/* Of Idriss, first the coefficients for magnitudes up to 6.75, then those above it. */
 static arb_struct idriss_balls[2][ROWS][IDRISS_COLUMNS];
-static arb_struct boore_atkinson_balls[ROWS][BOORE_ATKINSON_COLUMNS];
+arb_struct boore_atkinson_balls[ROWS][BOORE_ATKINSON_COLUMNS];
 
 /* 1.18 + 0.035 ln T of each period, T held to 0.05 s to 3 s, and 0.06 for a hundredth of magnitude. */
 static arb_struct sigma_of_period[ROWS];
 static arb_t sigma_of_magnitude;
 
-static arb_t ln_10, ln_100, ln_10000, ln_3000, ln_7600, ln_0_03, ln_0_09, ln_0_1, ln_0_6;
+arb_t ln_10, ln_100, ln_10000, ln_0_03, ln_0_09;
+static arb_t ln_3000, ln_7600, ln_0_1, ln_0_6;
 /* 1 / ln(180/300), 1 / ln(300/760), and c and d of the nonlinear part over the slope */
 static arb_t to_180, to_300, c_over_slope, d_over_slope;
 
-/* Balls that are written anew for each answer; the terms go with the columns. */
-static arb_struct idriss_terms[IDRISS_COLUMNS], boore_atkinson_terms[E1];
-static arb_t ln_v, ln_v_over_760, factor, rock, rock_acceleration, bnl, nonlinear, over_lower, over_upper, branch;
+/* Balls that are written anew for each answer. */
+static arb_t ln_v, ln_v_over_760, factor, rock, rock_acceleration, bnl, nonlinear, z, branch;
 
 /* x becomes ln(a/b). */
 static void set_ln(arb_t x, ulong a, ulong b)
@@ -147,19 +138,17 @@ static void ready_constants(void)
 
 void ready_arb(void)
 {
-    arb_ptr balls[] = {ln_v, ln_v_over_760, factor, rock, rock_acceleration, bnl, nonlinear, over_lower, over_upper,
-                       branch, c_over_slope, d_over_slope};
+    arb_ptr balls[] = {ln_v, ln_v_over_760, factor, rock, rock_acceleration, bnl, nonlinear, z, branch, c_over_slope,
+                       d_over_slope};
 
     for (size_t i = 0; i < sizeof balls / sizeof *balls; i++)
         arb_init(balls[i]);
-    for (int column = 0; column < IDRISS_COLUMNS; column++)
-        arb_init(&idriss_terms[column]);
-    for (int column = 0; column < E1; column++)
-        arb_init(&boore_atkinson_terms[column]);
     ready_tables();
     ready_sigma();
     ready_transition();
     ready_constants();
+    TERM_BY_TERM.ready();
+    TUNED.ready();
 }
 
 /* The row of a tabled period. */
@@ -171,54 +160,13 @@ static size_t row_of(const uint16_t *periods, uint16_t period)
     return row;
 }
 
-static void idriss(arb_t median, arb_t sigma, fusnoch_scenario s)
+static void idriss(const arb_way *way, arb_t median, arb_t sigma, fusnoch_scenario s)
 {
     size_t row = s.period == 0 ? 0 : row_of(IDRISS_PERIODS, s.period);
-    arb_srcptr at = idriss_balls[s.magnitude > 675][row];
-    arb_ptr term = idriss_terms;
-    ulong to_top = 850 - s.magnitude;
 
-    arb_one(&term[A1]);
-    arb_set_ui(&term[A2], s.magnitude);
-    arb_set_ui(&term[A3], to_top * to_top);
-    /* -ln(R + 10), alone and times the magnitude */
-    arb_log_ui(&term[B1], s.distance + 1000, BITS);
-    arb_sub(&term[B1], ln_100, &term[B1], BITS);
-    arb_mul_ui(&term[B2], &term[B1], s.magnitude, BITS);
-    arb_log_ui(&term[XI], s.velocity < 12000 ? s.velocity : 12000, BITS);
-    arb_sub(&term[XI], &term[XI], ln_10, BITS);
-    arb_set_ui(&term[GAMMA], s.distance);
-    arb_set_ui(&term[PHI], s.mechanism >= 2);
-    arb_dot(median, NULL, 0, at, 1, term, 1, IDRISS_COLUMNS, BITS);
-
+    way->idriss_median(median, idriss_balls[s.magnitude > 675][row], s);
     arb_set(sigma, &sigma_of_period[row]);
     arb_submul_ui(sigma, sigma_of_magnitude, s.magnitude < 500 ? 500 : s.magnitude > 750 ? 750 : s.magnitude, BITS);
-}
-
-/* The distance term and the magnitude term of Boore-Atkinson; for the row PGA this is p. */
-static void on_rock(arb_t sum, size_t row, fusnoch_scenario s)
-{
-    arb_srcptr at = boore_atkinson_balls[row], e = &at[E_OF_CODE[s.mechanism]];
-    arb_ptr term = boore_atkinson_terms;
-    ulong squares = (ulong)s.distance * s.distance + H_HUNDREDTHS[row] * H_HUNDREDTHS[row];
-    slong beyond_hinge = s.magnitude - HINGE_HUNDREDTHS[row];
-
-    /* ln R, which is half of ln(R^2), alone and times M - Mref; then R - Rref */
-    arb_log_ui(&term[C1], squares, BITS);
-    arb_sub(&term[C1], &term[C1], ln_10000, BITS);
-    arb_mul_2exp_si(&term[C1], &term[C1], -1);
-    arb_mul_si(&term[C2], &term[C1], s.magnitude - 450, BITS);
-    arb_sqrt_ui(&term[C3], squares, BITS);
-    arb_sub_ui(&term[C3], &term[C3], 100, BITS);
-
-    if (beyond_hinge <= 0) {
-        arb_set_si(&term[E5], beyond_hinge);
-        arb_set_si(&term[E6], beyond_hinge * beyond_hinge);
-        arb_dot(sum, e, 0, &at[E5], 1, &term[E5], 1, UP_TO_HINGE, BITS);
-    } else {
-        arb_set_si(&term[E7], beyond_hinge);
-        arb_dot(sum, e, 0, &at[C1], 1, &term[C1], 1, ABOVE_HINGE, BITS);
-    }
 }
 
 /* The slope bnl of the site term, from the logarithms of the velocity. */
@@ -241,7 +189,7 @@ static void slope(arb_srcptr at, uint16_t velocity)
 }
 
 /* The nonlinear part over the slope between the thresholds, with z = p - ln 0.03. */
-static void transition(arb_t sum, const arb_t z)
+static void transition(arb_t sum)
 {
     arb_set(sum, c_over_slope);
     arb_addmul(sum, d_over_slope, z, BITS);
@@ -251,37 +199,35 @@ static void transition(arb_t sum, const arb_t z)
 }
 
 /* The nonlinear part over the slope: the one branch that p reaches, or the union of those that it may reach. */
-static void nonlinear_over_slope(const arb_t p)
+static void nonlinear_over_slope(const arb_way *way, const arb_t p)
 {
-    int reached = 0;
+    int reached = way->branches(z, p), joined = 0;
 
-    arb_sub(over_lower, p, ln_0_03, BITS);
-    arb_sub(over_upper, p, ln_0_09, BITS);
-    if (!arb_is_positive(over_lower)) {
+    if (reached & UP_TO_LOWER) {
         arb_set(nonlinear, ln_0_6);
-        reached = 1;
+        joined = 1;
     }
-    if (!arb_is_nonpositive(over_lower) && !arb_is_positive(over_upper)) {
-        transition(reached ? branch : nonlinear, over_lower);
-        if (reached)
+    if (reached & BETWEEN) {
+        transition(joined ? branch : nonlinear);
+        if (joined)
             arb_union(nonlinear, nonlinear, branch, BITS);
-        reached = 1;
+        joined = 1;
     }
-    if (!arb_is_nonpositive(over_upper)) {
-        arb_sub(reached ? branch : nonlinear, p, ln_0_1, BITS);
-        if (reached)
+    if (reached & ABOVE_UPPER) {
+        arb_sub(joined ? branch : nonlinear, p, ln_0_1, BITS);
+        if (joined)
             arb_union(nonlinear, nonlinear, branch, BITS);
     }
 }
 
-static void boore_atkinson(arb_t median, arb_t sigma, fusnoch_scenario s)
+static void boore_atkinson(const arb_way *way, arb_t median, arb_t sigma, fusnoch_scenario s)
 {
     size_t row = row_of(BOORE_ATKINSON_PERIODS, s.period);
     arb_srcptr at = boore_atkinson_balls[row];
 
     arb_log_ui(ln_v, s.velocity, BITS);
     arb_sub(ln_v_over_760, ln_v, ln_7600, BITS);
-    on_rock(rock, row, s);
+    way->on_rock(rock, row, s);
     slope(at, s.velocity);
 
     arb_mul(median, &at[BLIN], ln_v_over_760, BITS);
@@ -289,17 +235,27 @@ static void boore_atkinson(arb_t median, arb_t sigma, fusnoch_scenario s)
     /* Without a slope there is no need of p, and for the row PGA it is known already. */
     if (!arb_is_zero(bnl)) {
         if (row != 0)
-            on_rock(rock_acceleration, 0, s);
-        nonlinear_over_slope(row == 0 ? rock : rock_acceleration);
+            way->on_rock(rock_acceleration, 0, s);
+        nonlinear_over_slope(way, row == 0 ? rock : rock_acceleration);
         arb_addmul(median, bnl, nonlinear, BITS);
     }
     arb_set(sigma, &at[s.mechanism == 9 ? UNSPECIFIED : SPECIFIED]);
 }
 
-void answer_in_arb(arb_t median, arb_t sigma, fusnoch_scenario s)
+static void answer(const arb_way *way, arb_t median, arb_t sigma, fusnoch_scenario s)
 {
     if (s.model == 1)
-        idriss(median, sigma, s);
+        idriss(way, median, sigma, s);
     else
-        boore_atkinson(median, sigma, s);
+        boore_atkinson(way, median, sigma, s);
+}
+
+void answer_in_arb_terms(arb_t median, arb_t sigma, fusnoch_scenario s)
+{
+    answer(&TERM_BY_TERM, median, sigma, s);
+}
+
+void answer_in_arb_tuned(arb_t median, arb_t sigma, fusnoch_scenario s)
+{
+    answer(&TUNED, median, sigma, s);
 }

@@ -1,8 +1,8 @@
 """Check the four ways of answering against document 01: from fields and from a record, each in whole units and doubles.
 
-Run as: python3 tests/test_answers.py PROBE [COUNT] [SEED]
+Run as: python3 tests/test_answers.py ASK [COUNT] [SEED]
 
-PROBE reads one question from each line of its input and prints one line for each, `E` and four ends or `R` and the
+ASK, a host's program, reads one question from each line of its input and prints one line for each, `E` and four ends or `R` and the
 number; a double is printed as the whole number that it equals:
 
     answer MODEL MAGNITUDE DISTANCE VELOCITY MECHANISM PERIOD, and doubles with the same
@@ -75,9 +75,9 @@ def questions(rng, count):
 
 def main(words):
     """Ask all questions and compare the answers."""
-    probe, count, seed = words[0], *map(int, words[1:] + [COUNT, SEED][len(words) - 1:])
+    program, count, seed = words[0], *map(int, words[1:] + [COUNT, SEED][len(words) - 1:])
     asked = questions(random.Random(seed), count)
-    lines, faults = ask(probe, [question for pair in asked for question in pair[:2]])
+    lines, faults = ask(program, [question for pair in asked for question in pair[:2]])
     tally = Tally()
     refused = 0
     for (whole, doubles, data, due), ends, same in zip(asked, lines[::2], lines[1::2]):

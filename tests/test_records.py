@@ -1,13 +1,17 @@
 """Check refusals, rows, reading and writing against document 01, by way of records.py.
 
-Run as: python3 tests/test_records.py PROBE [COUNT] [SEED]
+Run as: python3 tests/test_records.py ASK PROBE [COUNT] [SEED]
 
-PROBE reads one question from each line of its input and prints one line for each:
+ASK, a host's program, and PROBE read one question from each line of their input and print one line for each, ASK
 
     refusal MODEL MAGNITUDE DISTANCE VELOCITY MECHANISM PERIOD      -> K
-    row MODEL PERIOD                                                -> N
     read BYTES                                                      -> E MODEL ... PERIOD LENGTH REST or R K REST
     write MODEL MAGNITUDE DISTANCE VELOCITY MECHANISM PERIOD BYTES  -> L N BYTES or R K BYTES
+
+and PROBE
+
+    row MODEL PERIOD                                                -> N
+    rest BYTES                                                      -> REST
 
 Numbers are decimal; bytes are pairs of lower-case hexadecimal digits, or - for none, and at most 259 of them.
 COUNT is how many questions are drawn besides the fixed ones, 20,000 unless given.
@@ -28,7 +32,7 @@ FAILURES_SHOWN = 10
 
 
 class Question(NamedTuple):
-    """A line for the probe, its kind, and its answer where that is known without records.py."""
+    """A line for a program, its kind, and its answer where that is known without records.py."""
 
     kind: str
     line: str
@@ -148,7 +152,7 @@ MANY = 259
 # ---------------------------------------------------------------------------
 
 def show(data):
-    """Return bytes as the probe writes them."""
+    """Return bytes as the programs write them."""
     return data.hex() or '-'
 
 
@@ -579,13 +583,30 @@ def check_rules(asked, answers):
 
 
 # ---------------------------------------------------------------------------
-# The probe
+# The programs
 # ---------------------------------------------------------------------------
 
-def check_probe(asked, answers, lines):
+def rests(asked, answers):
+    """Return the questions for the rest of the bytes that are read, and their answers."""
+    pairs = [(question, expected) for question, expected in zip(asked, answers) if question.line.startswith('read ')]
+    return ([question._replace(line=question.line.replace('read', 'rest')) for question, _ in pairs],
+            [expected.split(' ')[-1] for _, expected in pairs])
+
+
+def check_program(program, asked, answers):
     """Return a message for each line that is not the expected one."""
-    return [f'{question.line}: expected {expected}, got {line} ({question.kind})'
-            for question, expected, line in zip(asked, answers, lines) if line != expected]
+    lines, faults = ask(program, [question.line for question in asked])
+    return faults + [f'{question.line}: expected {expected}, got {line} ({question.kind})'
+                     for question, expected, line in zip(asked, answers, lines) if line != expected]
+
+
+def check_programs(host, probe, asked, answers):
+    """Return the faults of a host's program, and those of the probe in rows and rests."""
+    faults = check_program(probe, *rests(asked, answers))
+    for program, wanted in ((host, False), (probe, True)):
+        part = [pair for pair in zip(asked, answers) if pair[0].line.startswith('row ') == wanted]
+        faults += check_program(program, [question for question, _ in part], [expected for _, expected in part])
+    return faults
 
 
 def fail(faults):
@@ -596,15 +617,14 @@ def fail(faults):
     return 1
 
 
-def run(probe, count, seed):
-    """Check records.py, then the probe; return the exit status."""
+def run(host, probe, count, seed):
+    """Check records.py, then the programs; return the exit status."""
     asked = questions(count, seed)
     answers = [answer(question.line) for question in asked]
     faults = check_rules(asked, answers)
     if faults:
         return fail(faults)
-    lines, faults = ask(probe, [question.line for question in asked])
-    faults += check_probe(asked, answers, lines)
+    faults = check_programs(host, probe, asked, answers)
     if faults:
         return fail(faults)
     names = Counter(question.line.split(' ')[0] for question in asked)
@@ -615,12 +635,12 @@ def run(probe, count, seed):
 
 def main(words):
     """Read the command line and run the checks."""
-    if len(words) not in (2, 3, 4) or not all(word.isdecimal() for word in words[2:]):
-        print('usage: test_records.py PROBE [COUNT] [SEED]', file=sys.stderr)
+    if len(words) not in (3, 4, 5) or not all(word.isdecimal() for word in words[3:]):
+        print('usage: test_records.py ASK PROBE [COUNT] [SEED]', file=sys.stderr)
         return 2
-    count = int(words[2]) if len(words) > 2 else COUNT
-    seed = int(words[3]) if len(words) > 3 else SEED
-    return run(words[1], count, seed)
+    count = int(words[3]) if len(words) > 3 else COUNT
+    seed = int(words[4]) if len(words) > 4 else SEED
+    return run(words[1], words[2], count, seed)
 
 
 if __name__ == '__main__':
