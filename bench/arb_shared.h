@@ -1,4 +1,4 @@
-/* What the two ways of the peer in Arb have in common: the coefficients and constants as balls, which arb.c makes ready,
+/* What the two ways of the peer in Arb have in common: the coefficients and constants as balls, made ready by arb.c;
    and the parts that each way, in arb_terms.c and arb_tuned.c, does for itself. */
 
 #ifndef ARB_SHARED_H

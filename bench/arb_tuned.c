@@ -1,5 +1,5 @@
-/* The peer in Arb, tuned: each sum of products is one dot product, which rounds once, and signs of differences, which
-   are needed anyway, take the place of comparisons. */
+/* The peer in Arb, tuned: the long sums of products are dot products, and signs of differences take the place of
+   comparisons. */
 
 #include "arb_shared.h"
 

@@ -1,4 +1,4 @@
-/* The benchmark: nanoseconds per answer of the engine's library, of plain C doubles and of Arb, in one run.
+/* The benchmark: nanoseconds per answer of the engine's library, of plain C doubles and of Arb in two ways, in one run.
 
    bench                           checks that all agree, then measures and prints a table for each model
    bench count CONTESTANT MODEL N  only works out N answers, for a counter of instructions
@@ -157,19 +157,29 @@ static void run_plain(const drawn *all, size_t answers)
     consumed_double += sum;
 }
 
-static void run_arb(const drawn *all, size_t answers)
+static void run_arb(const drawn *all, size_t answers, void (*answer)(arb_t, arb_t, fusnoch_scenario))
 {
     uint64_t sum = 0;
     arb_t median, sigma;
     arb_init(median);
     arb_init(sigma);
     for (size_t i = 0; i < answers; i++) {
-        answer_in_arb(median, sigma, all->scenario[i % SCENARIOS]);
+        answer(median, sigma, all->scenario[i % SCENARIOS]);
         sum += (uint64_t)(ARF_EXP(arb_midref(median)) + ARF_EXP(arb_midref(sigma)));
     }
     consumed += sum;
     arb_clear(median);
     arb_clear(sigma);
+}
+
+static void run_arb_terms(const drawn *all, size_t answers)
+{
+    run_arb(all, answers, answer_in_arb_terms);
+}
+
+static void run_arb_tuned(const drawn *all, size_t answers)
+{
+    run_arb(all, answers, answer_in_arb_tuned);
 }
 
 /* The loop alone.  The empty line keeps the compiler from taking several scenarios at a time. */
@@ -189,18 +199,26 @@ typedef struct {
 } contestant;
 
 /* The first four are ours; the table of times leaves the last one out. */
-enum { OURS = 4, PLAIN = 4, ARB = 5, TIMED = 6, CONTESTANTS = 7 };
+enum { OURS = 4, PLAIN = 4, ARB_TERMS = 5, ARB_TUNED = 6, TIMED = 7, CONTESTANTS = 8 };
 static const contestant CONTESTANT[CONTESTANTS] = {
     {"fields", "ours, from fields", run_fields},
     {"record", "ours, from a record", run_record},
     {"fields_in_doubles", "ours, from fields, in doubles", run_fields_in_doubles},
     {"record_in_doubles", "ours, from a record, in doubles", run_record_in_doubles},
     {"plain", "plain C doubles", run_plain},
-    {"arb", "Arb, 64 bits", run_arb},
+    {"arb_terms", "Arb, 64 bits, term by term", run_arb_terms},
+    {"arb_tuned", "Arb, 64 bits, tuned", run_arb_tuned},
     {"nothing", "the loop alone", run_nothing},
 };
 
 /* ---- Do they agree? ---- */
+
+/* What they answer to one scenario. */
+typedef struct {
+    fusnoch_answer ours;
+    plain_answer plain;
+    arb_t terms_median, terms_sigma, tuned_median, tuned_sigma;
+} answered;
 
 /* The distance of a value from our ends, 0 within them. */
 static double outside(double value, int64_t low, int64_t high)
@@ -225,6 +243,11 @@ static int meets(const arb_t ball, int64_t low, int64_t high)
     return met;
 }
 
+static int both_meet(const arb_t median, const arb_t sigma, fusnoch_answer ours)
+{
+    return meets(median, ours.median_low, ours.median_high) && meets(sigma, ours.sigma_low, ours.sigma_high);
+}
+
 static int same(fusnoch_answer a, fusnoch_answer b)
 {
     return a.number == b.number && a.median_low == b.median_low && a.median_high == b.median_high
@@ -238,59 +261,70 @@ static int same_in_doubles(fusnoch_answer a, fusnoch_doubles b)
 }
 
 /* Return what is wrong with the answers to a scenario, or a null pointer. */
-static const char *fault_of(const drawn *all, int i, fusnoch_answer ours, plain_answer plain, arb_t median, arb_t sigma)
+static const char *fault_of(const drawn *all, int i, const answered *a)
 {
     const uint8_t *record = all->record[i];
     size_t length = all->length[i];
-    if (ours.number != 0)
+    if (a->ours.number != 0)
         return "our library refuses an accepted scenario";
-    if (!same(ours, fusnoch_answer_record(record, length)))
+    if (!same(a->ours, fusnoch_answer_record(record, length)))
         return "our answers from fields and from a record differ";
-    if (!same_in_doubles(ours, fusnoch_answer_fields_in_doubles(all->scenario[i]))
-        || !same_in_doubles(ours, fusnoch_answer_record_in_doubles(record, length)))
+    if (!same_in_doubles(a->ours, fusnoch_answer_fields_in_doubles(all->scenario[i]))
+        || !same_in_doubles(a->ours, fusnoch_answer_record_in_doubles(record, length)))
         return "our answers in doubles differ";
-    if (!(outside(plain.median, ours.median_low, ours.median_high) <= PLAIN_MAY_DIFFER)
-        || !(outside(plain.sigma, ours.sigma_low, ours.sigma_high) <= PLAIN_MAY_DIFFER))
+    if (!(outside(a->plain.median, a->ours.median_low, a->ours.median_high) <= PLAIN_MAY_DIFFER)
+        || !(outside(a->plain.sigma, a->ours.sigma_low, a->ours.sigma_high) <= PLAIN_MAY_DIFFER))
         return "plain C lies too far outside of our ends";
-    if (!meets(median, ours.median_low, ours.median_high) || !meets(sigma, ours.sigma_low, ours.sigma_high))
-        return "Arb's ball does not meet our ends";
+    if (!both_meet(a->terms_median, a->terms_sigma, a->ours))
+        return "a ball of Arb, term by term, does not meet our ends";
+    if (!both_meet(a->tuned_median, a->tuned_sigma, a->ours))
+        return "a ball of Arb, tuned, does not meet our ends";
+    if (!arb_overlaps(a->terms_median, a->tuned_median) || !arb_overlaps(a->terms_sigma, a->tuned_sigma))
+        return "the balls of the two ways of Arb do not meet";
     return NULL;
 }
 
-static void print_fault(const char *fault, fusnoch_scenario s, fusnoch_answer ours, plain_answer plain, arb_t median,
-                        arb_t sigma)
+static void print_balls(const char *way, const arb_t median, const arb_t sigma)
 {
-    printf("%s:\n", fault);
-    printf("  model %d, magnitude %d, distance %d, velocity %d, mechanism %d, period %d\n", s.model, s.magnitude,
-           s.distance, s.velocity, s.mechanism, s.period);
-    printf("  ours    number %d, median %lld to %lld, sigma %lld to %lld (units of 10^-9)\n", ours.number,
-           (long long)ours.median_low, (long long)ours.median_high, (long long)ours.sigma_low,
-           (long long)ours.sigma_high);
-    printf("  plain C median %.12f, sigma %.12f\n", plain.median, plain.sigma);
-    printf("  Arb     median ");
+    printf("  %s median ", way);
     arb_printd(median, 20);
     printf(", sigma ");
     arb_printd(sigma, 20);
     printf("\n");
 }
 
+static void print_fault(const char *fault, fusnoch_scenario s, const answered *a)
+{
+    printf("%s:\n", fault);
+    printf("  model %d, magnitude %d, distance %d, velocity %d, mechanism %d, period %d\n", s.model, s.magnitude,
+           s.distance, s.velocity, s.mechanism, s.period);
+    printf("  ours      number %d, median %lld to %lld, sigma %lld to %lld (units of 10^-9)\n", a->ours.number,
+           (long long)a->ours.median_low, (long long)a->ours.median_high, (long long)a->ours.sigma_low,
+           (long long)a->ours.sigma_high);
+    printf("  plain C   median %.12f, sigma %.12f\n", a->plain.median, a->plain.sigma);
+    print_balls("Arb terms", a->terms_median, a->terms_sigma);
+    print_balls("Arb tuned", a->tuned_median, a->tuned_sigma);
+}
+
 /* Say whether all contestants agree on all the scenarios; print the first one on which they do not. */
 static int agree(const drawn *all)
 {
     const char *fault = NULL;
-    arb_t median, sigma;
-    arb_init(median);
-    arb_init(sigma);
+    answered a;
+    arb_ptr balls[] = {a.terms_median, a.terms_sigma, a.tuned_median, a.tuned_sigma};
+    for (int ball = 0; ball < 4; ball++)
+        arb_init(balls[ball]);
     for (int i = 0; i < SCENARIOS && fault == NULL; i++) {
-        fusnoch_answer ours = fusnoch_answer_fields(all->scenario[i]);
-        plain_answer plain = answer_in_plain_c(all->scenario[i]);
-        answer_in_arb(median, sigma, all->scenario[i]);
-        fault = fault_of(all, i, ours, plain, median, sigma);
+        a.ours = fusnoch_answer_fields(all->scenario[i]);
+        a.plain = answer_in_plain_c(all->scenario[i]);
+        answer_in_arb_terms(a.terms_median, a.terms_sigma, all->scenario[i]);
+        answer_in_arb_tuned(a.tuned_median, a.tuned_sigma, all->scenario[i]);
+        fault = fault_of(all, i, &a);
         if (fault != NULL)
-            print_fault(fault, all->scenario[i], ours, plain, median, sigma);
+            print_fault(fault, all->scenario[i], &a);
     }
-    arb_clear(median);
-    arb_clear(sigma);
+    for (int ball = 0; ball < 4; ball++)
+        arb_clear(balls[ball]);
     return fault == NULL;
 }
 
@@ -334,12 +368,14 @@ static void measure(const drawn all[2], double times[2][TIMED][ROUNDS])
 
 static void print_times(int model, double times[TIMED][ROUNDS])
 {
-    printf("\n%-33s %8s %8s %14s %12s\n", MODEL_NAMES[model - 1], "best", "median", "ours / plain", "Arb / ours");
+    printf("\n%-33s %8s %8s %14s %18s %18s\n", MODEL_NAMES[model - 1], "best", "median", "ours / plain",
+           "Arb terms / ours", "Arb tuned / ours");
     for (int who = 0; who < TIMED; who++) {
         double best = times[who][0];
         printf("  %-31s %8.1f %8.1f", CONTESTANT[who].title, best, times[who][ROUNDS / 2]);
         if (who < OURS)
-            printf(" %14.2f %12.2f", best / times[PLAIN][0], times[ARB][0] / best);
+            printf(" %14.2f %18.2f %18.2f", best / times[PLAIN][0], times[ARB_TERMS][0] / best,
+                   times[ARB_TUNED][0] / best);
         printf("\n");
     }
 }

@@ -16,7 +16,7 @@ typedef struct {
 plain_answer answer_in_plain_c(fusnoch_scenario s);
 
 /* Arb at 64 bits: balls that enclose the value, in two ways between which a user's own would lie.  Term by term follows
-   the equations; tuned makes each sum of products one dot product and compares by signs.  The coefficients and the
+   the equations; tuned has dot products for the long sums of products and compares by signs.  The coefficients and the
    constants are made ready once for both, by ready_arb. */
 void ready_arb(void);
 void answer_in_arb_terms(arb_t median, arb_t sigma, fusnoch_scenario s);

@@ -4,11 +4,13 @@ use Prim.Native.Nat.{ℕ, suc, _+_, _*_, _-_, _/_, _^_, _≤_, _<_}
 use native.Mathlib.Nat.{mul-le-mul-left, mul-le-mul-right, div-mul-le-self, lt-div-mul-add, lt-of-mul-lt-mul-right}
 use native.Mathlib.Decide.{decLe}
 use native.Mathlib.Omega.{arith}
+use borrow.Author.Tests.{ne-eqb}
 use lib.Count.{leadingZeros, leading-top}
 use lib.Pow.{pow-pos, pow-mono, pow-add}
+use Rattle.logarithm.specs.declared.Ends.{Ends}
 use Rattle.logarithm.specs.declared.Scaled.{Scaled}
 use Rattle.logarithm.specs.Promise.{LnDomain}
-use Rattle.logarithm.specs.Evaluation.{Normal, scaledOf}
+use Rattle.logarithm.specs.Evaluation.{Normal, scaledOf, scaledLnOf, lnOf}
 
 -- x is from 2^k 2^35 to below 2^k 2^36, with k = 28 less the leading zeros
 record Aligned (x : ℕ) : Type 0 where
@@ -89,3 +91,8 @@ scales {a} {b} d =
           low = less x (x / 2 ^ k) (2 ^ k) below r;
           high = more x (x / 2 ^ k) (2 ^ k) above t;
         }
+
+-- the ends of the logarithm of an unequal pair are those of the scaled quotient
+pub unequal : {e : Ends} (a b : ℕ) → (a ≡ b → ⊥) → e ≡ scaledLnOf (scaledOf a b) → e ≡ lnOf a b
+unfolding lnOf
+unequal a b h e = rw (ne-eqb a b h) e
