@@ -6,14 +6,14 @@ use native.Mathlib.Omega.{arith}
 use borrow.Author.Tests.{leb-true, leb-false, ltb-true, ltb-false}
 use lib.Dec.{leb, ltb}
 use Rattle.logarithm.specs.declared.Ends.{Ends}
-use Rattle.logarithm.specs.Promise.{LnDomain}
+use Rattle.logarithm.specs.Promise.{LnDomain, lnWidth}
 use Rattle.logarithm.specs.Evaluation.{lnOf}
 use Rattle.outward.specs.Evaluation.{Sized, multipleOf, productOf, spanOf}
 use Rattle.outward.proofs.Laws.{sized-wider, ln-sized, ln-sized-by, multiple-sized, product-sized, From, product-from, sum-from, sum-sized, span-sized}
 use Rattle.boore_atkinson.specs.declared.table.SiteRow.{SiteRow}
 use Rattle.boore_atkinson.specs.Rows.{SiteLimits}
 use Rattle.boore_atkinson.specs.Constants.{minusLnLow, minusLnA1, minusLnA2, overSlow, overFast, cOver, dOver}
-use Rattle.boore_atkinson.specs.Evaluation.{exactly, linearOf, slowSlopeOf, fastSlopeOf, slopeOf, zOf, cubicOf, straightOf, branchOf, curveOf, nonlinearOf}
+use Rattle.boore_atkinson.specs.Evaluation.{exactly, velocityLnOf, linearOf, slowSlopeOf, fastSlopeOf, slopeOf, zOf, cubicOf, straightOf, branchOf, curveOf, nonlinearOf}
 use Rattle.boore_atkinson.specs.Sizes.{MotionSized}
 use Rattle.boore_atkinson.proofs.SiteLaws.{ln-domain}
 
@@ -27,6 +27,16 @@ pub over-fast-sized : Sized overFast 2 1_075_805_612
 over-fast-sized = record { order = omega arith; narrow = omega arith; small = omega arith }
 
 -- ---- the linear part
+
+pub velocity-sized : {v : ℕ} → 1_800 ≤ v → v ≤ 13_000 → Sized (velocityLnOf v) lnWidth 21_000_000_000
+unfolding velocityLnOf
+velocity-sized {v = v} slow fast = go (ltb v 7_600) refl
+  where
+    go : (c : Bool) → ltb v 7_600 ≡ c → Sized (cond c (lnOf 7_600 v) (lnOf v 7_600)) lnWidth 21_000_000_000
+    go true c =
+        let h = ltb-true v 7_600 c in ln-sized (ln-domain (omega arith) (omega arith) (omega arith))
+    go false c =
+        let h = ltb-false v 7_600 c in ln-sized (ln-domain (omega arith) (omega arith) (omega arith))
 
 module _ {s : SiteRow} (l : SiteLimits s) {v : ℕ} (slow : 1_800 ≤ v) where
   linear-term : (a b : ℕ) → LnDomain a b → Sized (multipleOf (20_000 * s .0) (lnOf a b)) 3 16_000_000_000

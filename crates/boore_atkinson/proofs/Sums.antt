@@ -21,7 +21,7 @@ use Rattle.boore_atkinson.specs.Tables.{Total, Row, pga}
 use Rattle.boore_atkinson.specs.Rock.{sumOfSquares}
 use Rattle.boore_atkinson.specs.Rows.{siteParts, distanceParts, magnitudeParts, totalParts}
 use Rattle.boore_atkinson.specs.Constants.{minusLnLow, minusLnA1, minusLnA2, overSlow, overFast, cOver, dOver}
-use Rattle.boore_atkinson.specs.Evaluation.{exactly, kmOf, effectiveOf, spreadOf, fallOf, levelOf, magnitudeOf, rockOf, belowOf, belowFor, linearOf, slowSlopeOf, fastSlopeOf, slopeOf, zOf, cubicOf, branchOf, curveOf, nonlinearOf, endsOf, plusOf, medianOf, sigmaOf}
+use Rattle.boore_atkinson.specs.Evaluation.{exactly, kmOf, effectiveOf, spreadOf, fallOf, levelOf, magnitudeOf, rockOf, belowOf, belowFor, velocityLnOf, linearOf, slowSlopeOf, fastSlopeOf, slopeOf, zOf, cubicOf, branchOf, curveOf, nonlinearOf, endsOf, plusOf, medianOf, sigmaOf}
 
 pub effective-is : (d h : ℕ) {k : ℕ} {e : Ends} → k ≡ rootOf (sumOfSquares d h) → e ≡ lnOf (sumOfSquares d h) 10_000 →
     record { ln = e; km = record { low = k * 78_125 / 1_024; high = (k + 1) * 78_125 / 1_024 + 1 } } ≡ effectiveOf d h
@@ -87,6 +87,23 @@ pub slow-is : (s : SiteRow) (v : ℕ) {l ratio term b2 n : Ends} → l ≡ lnOf 
     n ≡ slowSlopeOf s v
 unfolding slowSlopeOf
 slow-is s v l ratio term b2 n = rw (n, term, b2, ratio, l) refl
+
+module _ (v : ℕ) {l : Ends} where
+  pub ln-slow : v < 7_600 → l ≡ lnOf 7_600 v → l ≡ velocityLnOf v
+  unfolding velocityLnOf
+  ln-slow h e = rw (lt-ltb v 7_600 h) e
+
+  pub ln-fast : 7_600 ≤ v → l ≡ lnOf v 7_600 → l ≡ velocityLnOf v
+  unfolding velocityLnOf
+  ln-fast h e = rw (le-ltb v 7_600 h) e
+
+  pub slow-ln : v < 7_600 → l ≡ velocityLnOf v → l ≡ lnOf 7_600 v
+  unfolding velocityLnOf
+  slow-ln h e = rw (lt-ltb v 7_600 h) at e
+
+  pub fast-ln : 7_600 ≤ v → l ≡ velocityLnOf v → l ≡ lnOf v 7_600
+  unfolding velocityLnOf
+  fast-ln h e = rw (le-ltb v 7_600 h) at e
 
 pub fast-is : (s : SiteRow) (v : ℕ) {l ratio n : Ends} → l ≡ lnOf 7_600 v → ratio ≡ productOf l overFast →
     n ≡ multipleOf (200_000 * s .2) ratio → n ≡ fastSlopeOf s v

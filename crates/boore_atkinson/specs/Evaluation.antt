@@ -76,6 +76,10 @@ belowOf m d mechanism =
 
 -- ---- the site term
 
+-- the size of ln(V/760)
+unfoldable pub velocityLnOf : ℕ → Ends
+velocityLnOf v = cond (ltb v 7_600) (lnOf 7_600 v) (lnOf v 7_600)
+
 unfoldable pub linearOf : SiteRow → ℕ → Motion
 linearOf s v =
     cond (ltb v 7_600)

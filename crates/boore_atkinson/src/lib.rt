@@ -56,8 +56,9 @@ pub fn median(
     let effective = rock::effective_distance(d, row.4 as u64);
     let motion = rock::rock(row, table::magnitude_at(k), m, effective, mechanism);
     let s = table::site_at(k);
-    let linear = site::linear(s, v);
-    let nonlinear = site::nonlinear_part(s, v, rock::below_for(v, m, d, mechanism));
+    let l = site::velocity_ln(v);
+    let linear = site::linear(s, v, l);
+    let nonlinear = site::nonlinear_part(s, v, l, rock::below_for(v, m, d, mechanism));
     ends(plus(plus(motion, linear), nonlinear))
 }
 
@@ -66,7 +67,8 @@ pub fn nonlinear(k: usize, velocity: u16, b: logarithm::Ends) -> signed::Ends
     requires { ⌜ NonlinearDomain k velocity b ⌝ }
     ensures { λ r. ⌜ r ≡ nonlinearEndsOf (rowAt k .site) velocity b ⌝ }
 {
-    ends(site::nonlinear_part(table::site_at(k), velocity as u64, b))
+    let v = velocity as u64;
+    ends(site::nonlinear_part(table::site_at(k), v, site::velocity_ln(v), b))
 }
 
 // The total for a fault type that is unspecified, code 9, or specified.

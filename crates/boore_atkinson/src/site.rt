@@ -3,7 +3,7 @@ ghost use mathlib.Core.Path.{_≡_};
 ghost use Prim.Native.Nat.{_≤_, _<_};
 ghost use Rattle.outward.specs.Evaluation.{Sized};
 ghost use Rattle.boore_atkinson.specs.Rows.{SiteLimits};
-ghost use Rattle.boore_atkinson.specs.Evaluation.{exactly, linearOf, slowSlopeOf, fastSlopeOf, slopeOf, zOf, cubicOf, straightOf, branchOf, curveOf, nonlinearOf};
+ghost use Rattle.boore_atkinson.specs.Evaluation.{exactly, velocityLnOf, linearOf, slowSlopeOf, fastSlopeOf, slopeOf, zOf, cubicOf, straightOf, branchOf, curveOf, nonlinearOf};
 ghost use Rattle.boore_atkinson.specs.Constants.{minusLnA2};
 ghost use Rattle.boore_atkinson.specs.Sizes.{MotionSized};
 use crate::Motion;
@@ -48,21 +48,32 @@ fn exact(n: u64) -> Ends
     Ends { low: n, high: n }
 }
 
-// blin ln(V/760).
-pub fn linear(s: SiteRow, v: u64) -> Motion
-    requires { ⌜ SiteLimits s × (1_800 ≤ v) × (v ≤ 13_000) ⌝ }
+// The size of ln(V/760), which the linear part and the slope have in common.
+pub fn velocity_ln(v: u64) -> Ends
+    requires { ⌜ (1_800 ≤ v) × (v ≤ 13_000) ⌝ }
+    ensures { λ l. ⌜ l ≡ velocityLnOf v ⌝ }
+{
+    if v < 7_600 {
+        return logarithm::ln(7_600, v);
+    }
+    logarithm::ln(v, 7_600)
+}
+
+// blin ln(V/760), where l is the size of the logarithm.
+pub fn linear(s: SiteRow, v: u64, l: Ends) -> Motion
+    requires { ⌜ SiteLimits s × (1_800 ≤ v) × (v ≤ 13_000) × (l ≡ velocityLnOf v) ⌝ }
     ensures { λ a. ⌜ (a ≡ linearOf s v) × MotionSized a 3 16_000_000_000 ⌝ }
 {
-    let factor = 20_000 * s.0 as u64;
+    let term = multiple(20_000 * s.0 as u64, l);
     if v < 7_600 {
         return Motion {
-            gain: multiple(factor, logarithm::ln(7_600, v)),
+            gain: term,
             loss: exact(0),
         };
     }
     Motion {
         gain: exact(0),
-        loss: multiple(factor, logarithm::ln(v, 7_600)),
+        loss: term,
     }
 }
 
@@ -79,18 +90,18 @@ fn slow_slope(s: SiteRow, v: u64) -> Ends
     )
 }
 
-// −bnl from 300 to 760 m/s.
-fn fast_slope(s: SiteRow, v: u64) -> Ends
-    requires { ⌜ SiteLimits s × (3_000 ≤ v) × (v ≤ 7_600) ⌝ }
+// −bnl from 300 to 760 m/s, where l is ln(760/V).
+fn fast_slope(s: SiteRow, v: u64, l: Ends) -> Ends
+    requires { ⌜ SiteLimits s × (3_000 ≤ v) × (v < 7_600) × (l ≡ velocityLnOf v) ⌝ }
     ensures { λ n. ⌜ (n ≡ fastSlopeOf s v) × Sized n 6 900_000_000 ⌝ }
 {
-    let ratio = product(logarithm::ln(7_600, v), OVER_FAST);
+    let ratio = product(l, OVER_FAST);
     multiple(200_000 * s.2 as u64, ratio)
 }
 
-// −bnl.
-fn slope(s: SiteRow, v: u64) -> Ends
-    requires { ⌜ SiteLimits s × (1_800 ≤ v) ⌝ }
+// −bnl, where l is the size of ln(V/760).
+fn slope(s: SiteRow, v: u64, l: Ends) -> Ends
+    requires { ⌜ SiteLimits s × (1_800 ≤ v) × (l ≡ velocityLnOf v) ⌝ }
     ensures { λ n. ⌜ (n ≡ slopeOf s v) × Sized n 6 900_000_000 ⌝ }
 {
     if v <= 1_800 {
@@ -100,7 +111,7 @@ fn slope(s: SiteRow, v: u64) -> Ends
         return slow_slope(s, v);
     }
     if v < 7_600 {
-        return fast_slope(s, v);
+        return fast_slope(s, v, l);
     }
     exact(0)
 }
@@ -166,12 +177,12 @@ fn curve(b: Ends) -> Ends
     span(exact(0), u)
 }
 
-// The nonlinear part, where −p lies in b.
-pub fn nonlinear_part(s: SiteRow, v: u64, b: Ends) -> Motion
-    requires { ⌜ SiteLimits s × (1_800 ≤ v) × (b .low ≤ b .high) ⌝ }
+// The nonlinear part, where l is the size of ln(V/760), and −p lies in b.
+pub fn nonlinear_part(s: SiteRow, v: u64, l: Ends, b: Ends) -> Motion
+    requires { ⌜ SiteLimits s × (1_800 ≤ v) × (l ≡ velocityLnOf v) × (b .low ≤ b .high) ⌝ }
     ensures { λ a. ⌜ (a ≡ nonlinearOf s v b) × MotionSized a 2_554_920_006 2_538_000_001 ⌝ }
 {
-    let n = slope(s, v);
+    let n = slope(s, v, l);
     Motion {
         gain: product(n, MINUS_LN_LOW),
         loss: product(n, curve(b)),

@@ -27,6 +27,9 @@ rock-requires c κs = search needs
 site-at-requires : tie.Need-site-at-requires
 site-at-requires c κs = search needs
 
+velocity-ln-requires : tie.Need-velocity-ln-requires
+velocity-ln-requires c κs = search needs
+
 linear-requires : tie.Need-linear-requires
 linear-requires c κs = search needs
 
@@ -34,16 +37,22 @@ below-for-requires : tie.Need-below-for-requires
 below-for-requires c κs = search needs
 
 nonlinear-part-requires : tie.Need-nonlinear-part-requires
-nonlinear-part-requires c κs = search needs
+nonlinear-part-requires c κs =
+    let l = c .before .before in
+    let p = l .before .before .before .before .before .before .before .pre in
+    (l .before .site-at .ensures .1, p .slow, l .velocity-ln .ensures, c .below-for .ensures .1 .order)
 
 plus-requires : tie.Need-plus-requires
-plus-requires c κs = search needs
+plus-requires c κs =
+    let n = c .before .before in (
+      motion-wider (n .before .before .before .rock .ensures .1) (omega arith) (omega arith),
+      motion-wider (n .linear .ensures .1) (omega arith) (omega arith),
+    )
 
 plus-requires-2 : tie.Need-plus-requires-2
 plus-requires-2 c κs =
-    let first =
-    plus-sized (c .before .before .before .before .before .rock .ensures .1)
-    (c .before .before .before .linear .ensures .1) in (
+    let n = c .before .before .before in
+    let first = plus-sized (n .before .before .before .rock .ensures .1) (n .linear .ensures .1) in (
       rw (c .plus .ensures) (motion-wider first (omega arith) (omega arith)),
       motion-wider
           (c .before .nonlinear-part .ensures .1) (omega arith) (omega arith),
@@ -51,26 +60,26 @@ plus-requires-2 c κs =
 
 ends-requires : tie.Need-ends-requires
 ends-requires c κs =
-    let first =
-    plus-sized (c .before .before .before .before .before .before .rock .ensures .1)
-    (c .before .before .before .before .linear .ensures .1) in
+    let n = c .before .before .before .before in
+    let first = plus-sized (n .before .before .before .rock .ensures .1) (n .linear .ensures .1) in
     rw (c .plus2 .ensures, c .before .plus .ensures)
     (motion-wider (plus-sized first (c .before .before .nonlinear-part .ensures .1)) (omega arith) (omega arith))
 
 returns : tie.Need-returns
 returns c =
-    let a = c .before .before .before .before .before .before .before .before .before .before .before .before .args in
+    let b = c .before .before .before .before in
+    let s = b .before .before .before in
+    let r = s .before in
+    let e = r .before .before in
+    let d = e .before .before in
+    let a = d .before .args in
     let n = c .before .before .before .nonlinear-part in
     let sum = c .before .plus2 .ensures ∙ ap (λ x. plusOf x (n .result)) (c .before .before .plus .ensures) in
     c .ends .ensures ∙ ap endsOf sum ∙
     median-is (rowAt (a .k)) (a .magnitude) (a .projection-distance) (a .velocity) (a .mechanism)
-    (c .before .before .before .before .before .before .before .before .before .before .before .distance-at .ensures .0)
-    (c .before .before .before .before .before .before .before .before .magnitude-at .ensures .0)
-    (c .before .before .before .before .before .before .site-at .ensures .0)
-    (c .before .before .before .before .before .before .before .before .before .effective-distance .ensures .0)
-    (c .before .before .before .before .before .before .before .rock .ensures .0)
-    (c .before .before .before .before .before .linear .ensures .0)
-    (c .before .before .before .before .below-for .ensures .0) (n .ensures .0)
+    (d .distance-at .ensures .0) (r .before .magnitude-at .ensures .0) (s .site-at .ensures .0)
+    (e .effective-distance .ensures .0) (r .rock .ensures .0) (b .before .linear .ensures .0)
+    (b .below-for .ensures .0) (n .ensures .0)
 
 pub median-spec : {M : Type 1} → statement M
 median-spec =
@@ -82,6 +91,7 @@ median-spec =
     magnitude-at-requires
     rock-requires
     site-at-requires
+    velocity-ln-requires
     linear-requires
     below-for-requires
     nonlinear-part-requires

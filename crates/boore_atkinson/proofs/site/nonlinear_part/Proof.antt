@@ -26,7 +26,7 @@ returns c =
     let e =
     nonlinear-is (a .s) (a .v) (a .b) (c .before .before .before .slope .ensures .0) (c .before .curve .ensures .0)
     (c .before .before .product .ensures) (c .product2 .ensures) in
-    (e, rw e (nonlinear-sized (a .b) (p .0) (p .1) (p .2)))
+    (e, rw e (nonlinear-sized (a .b) (p .0) (p .1) (p .3)))
 
 pub nonlinear-part-spec : {M : Type 1} → statement M
 nonlinear-part-spec =
