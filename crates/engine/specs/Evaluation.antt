@@ -1,13 +1,15 @@
 -- What the engine computes. A change of the way of computing swaps these definitions behind their names; callers go by
 -- the promises of specs/Promise, and by equal answers to equal scenarios, and never by this text.
+use mathlib.Core.Bool.{cond}
 use Prim.Native.Nat.{ℕ, _^_}
 use mathlib.Core.List.{List}
+use lib.Dec.{eqb}
 use lib.IntN.{ℤ}
 use lib.Ieee.{Float, binary64, ofInt}
 use Rattle.signed.specs.Evaluation.{SmallerThan}
 use Rattle.scenario.specs.declared.Scenario.{Scenario}
 use Rattle.scenario.specs.Checks.{unlessRefused}
-use Rattle.scenario.specs.Refusal.{refusalOf}
+use Rattle.scenario.specs.Refusal.{idrissRow, booreAtkinsonRow, refusalOf}
 use Rattle.record.specs.Outcome.{scenarioIn, readRefusal}
 use Rattle.idriss.specs.Tables.{rowFor as idrissRowFor}
 use Rattle.idriss.specs.Evaluation.{medianOf as idrissMedianOf, sigmaOf as idrissSigmaOf}
@@ -32,6 +34,10 @@ scenarioWith model magnitude distance velocity mechanism period =
       mechanism = mechanism;
       period = period;
     }
+
+-- the row of a period in the tables of its model
+abbrev pub rowOf : ℕ → ℕ → ℕ
+rowOf model period = cond (eqb model 1) (idrissRow period) (booreAtkinsonRow period)
 
 -- ---- in whole numbers of units
 

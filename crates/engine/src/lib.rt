@@ -3,10 +3,10 @@
 ghost use mathlib.Core.Path.{_≡_};
 ghost use Prim.Native.Nat.{_^_, _<_};
 ghost use lib.Signed.{mag};
-ghost use Rattle.scenario.specs.Refusal.{refusalOf};
+ghost use Rattle.scenario.specs.Refusal.{idrissRow, booreAtkinsonRow, refusalOf};
 ghost use Rattle.record.specs.Outcome.{scenarioIn, readRefusal};
 ghost use Rattle.engine.specs.Promise.{AnswerPromise, DoublesPromise};
-ghost use Rattle.engine.specs.Evaluation.{scenarioWith, enclosureOf, answerOf, recordAnswerOf, SmallEnclosure};
+ghost use Rattle.engine.specs.Evaluation.{scenarioWith, rowOf, enclosureOf, answerOf, recordAnswerOf, SmallEnclosure};
 ghost use Rattle.engine.specs.Evaluation.{doubleOf, doublesOf, inDoubles};
 use record::Reading;
 use scenario::Scenario;
@@ -38,30 +38,39 @@ pub enum DoublesAnswer {
     Refused(u8),
 }
 
-fn by_idriss(s: Scenario) -> Enclosure
-    requires { ⌜ (s .model ≡ 1) × (refusalOf s ≡ 0) ⌝ }
+fn by_idriss(s: Scenario, k: usize) -> Enclosure
+    requires { ⌜ (s .model ≡ 1) × (refusalOf s ≡ 0) × (k ≡ idrissRow (s .period)) ⌝ }
     ensures { λ r. ⌜ r ≡ enclosureOf s ⌝ }
 {
     let third = idriss::takes_table_3(s.magnitude);
-    let k = scenario::idriss_row(s.period);
     Enclosure {
         median: idriss::median(third, k, s.magnitude, s.distance, s.velocity, s.mechanism),
         sigma: idriss::sigma(s.period, s.magnitude),
     }
 }
 
-fn by_boore_atkinson(s: Scenario) -> Enclosure
-    requires { ⌜ (s .model ≡ 2) × (refusalOf s ≡ 0) ⌝ }
+fn by_boore_atkinson(s: Scenario, k: usize) -> Enclosure
+    requires { ⌜ (s .model ≡ 2) × (refusalOf s ≡ 0) × (k ≡ booreAtkinsonRow (s .period)) ⌝ }
     ensures { λ r. ⌜ r ≡ enclosureOf s ⌝ }
 {
-    let k = scenario::boore_atkinson_row(s.period);
     Enclosure {
         median: boore_atkinson::median(k, s.magnitude, s.distance, s.velocity, s.mechanism),
         sigma: boore_atkinson::sigma(k, s.mechanism),
     }
 }
 
-// By the scenario's own model. The fields pass in registers; a struct would be stored and read back by every caller.
+// The row of a period in the tables of its model.
+fn row(model: u8, period: u16) -> usize
+    ensures { λ r. ⌜ r ≡ rowOf model period ⌝ }
+{
+    if model == 1 {
+        return scenario::idriss_row(period);
+    }
+    scenario::boore_atkinson_row(period)
+}
+
+// By the scenario's own model, k the row of its period. The fields pass in registers, as a struct would be stored and
+// read back; the callers look up the row, where the checks have just looked it up.
 fn by_model(
     model: u8,
     magnitude: u16,
@@ -69,8 +78,10 @@ fn by_model(
     velocity: u16,
     mechanism: u8,
     period: u16,
+    k: usize,
 ) -> Enclosure
     requires { ⌜ refusalOf (scenarioWith model magnitude distance velocity mechanism period) ≡ 0 ⌝ }
+    requires { ⌜ k ≡ rowOf model period ⌝ }
     ensures { λ r. ⌜ r ≡ enclosureOf (scenarioWith model magnitude distance velocity mechanism period) ⌝ }
 {
     let s = Scenario {
@@ -82,9 +93,9 @@ fn by_model(
         period,
     };
     if model == 1 {
-        return by_idriss(s);
+        return by_idriss(s, k);
     }
-    by_boore_atkinson(s)
+    by_boore_atkinson(s, k)
 }
 
 // Answers a scenario of any fields.
@@ -103,6 +114,7 @@ pub fn answer_fields(s: Scenario) -> Answer
         s.velocity,
         s.mechanism,
         s.period,
+        row(s.model, s.period),
     );
     Answer::Enclosed(e)
 }
@@ -120,6 +132,7 @@ pub fn answer_record(bytes: &[u8]) -> Answer
             s.velocity,
             s.mechanism,
             s.period,
+            row(s.model, s.period),
         )),
         Reading::Refused(k) => Answer::Refused(k),
     }
@@ -160,6 +173,7 @@ pub fn answer_fields_in_doubles(s: Scenario) -> DoublesAnswer
         s.velocity,
         s.mechanism,
         s.period,
+        row(s.model, s.period),
     );
     DoublesAnswer::Enclosed(as_doubles(e))
 }
@@ -177,6 +191,7 @@ pub fn answer_record_in_doubles(bytes: &[u8]) -> DoublesAnswer
             s.velocity,
             s.mechanism,
             s.period,
+            row(s.model, s.period),
         ))),
         Reading::Refused(k) => DoublesAnswer::Refused(k),
     }

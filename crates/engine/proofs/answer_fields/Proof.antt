@@ -16,10 +16,11 @@ refused c =
 enclosed : tie.Need-returns-2
 unfolding answerOf
 enclosed c =
-    let k = c .before .before in
+    let i = c .before .before in
+    let k = i .before in
     let s = k .before .args .s in
     answers s (refusalOf s) (λ e. e)
-    (fields-enclosed s (k .refusal .result) (k .refusal .ensures) (c .before .if1 .left) (c .by-model .ensures))
+    (fields-enclosed s (k .refusal .result) (k .refusal .ensures) (i .if1 .left) (c .by-model .ensures))
 
 pub answer-fields-spec : {M : Type 1} → statement M
-answer-fields-spec = tie.close (tie.spec (λ c κs. search needs) refused (λ c κs. search needs) enclosed)
+answer-fields-spec = tie.close (tie.spec (λ c κs. search needs) refused (λ c κs. search needs) (λ c κs. search needs) enclosed)

@@ -17,19 +17,21 @@ refused c =
 
 small : tie.Need-as-doubles-requires
 small c κs =
-    let k = c .before .before in
-    rw (c .by-model .ensures) (sound (k .before .args .s) (sym (k .refusal .ensures) ∙ c .before .if1 .left) .small)
+    let i = c .before .before in
+    let k = i .before in
+    rw (c .by-model .ensures) (sound (k .before .args .s) (sym (k .refusal .ensures) ∙ i .if1 .left) .small)
 
 enclosed : tie.Need-returns-2
 unfolding answerOf
 enclosed c =
     let m = c .before in
-    let k = m .before .before in
+    let i = m .before .before in
+    let k = i .before in
     let s = k .before .args .s in
     doubles-answers s (refusalOf s) (λ e. e)
     (enclosed-in-doubles (c .as-doubles .ensures)
-    (fields-enclosed s (k .refusal .result) (k .refusal .ensures) (m .before .if1 .left) (m .by-model .ensures)))
+    (fields-enclosed s (k .refusal .result) (k .refusal .ensures) (i .if1 .left) (m .by-model .ensures)))
 
 pub answer-fields-in-doubles-spec : {M : Type 1} → statement M
 answer-fields-in-doubles-spec =
-    tie.close (tie.spec (λ c κs. search needs) refused (λ c κs. search needs) small enclosed)
+    tie.close (tie.spec (λ c κs. search needs) refused (λ c κs. search needs) (λ c κs. search needs) small enclosed)

@@ -13,17 +13,19 @@ use Rattle.engine.proofs.answer_record.Tie as tie
 
 accepted : tie.Need-by-model-requires
 accepted c κs =
-    let r = read-as _ _ _ (sym (c .before .before .before .read .ensures .0) ∙ c .before .s .given .1) in
-    rw (r .scenario) at (r .passes .taken)
+    let k = c .before .before in
+    let r = read-as _ _ _ (sym (k .before .before .read .ensures .0) ∙ k .s .given .1) in
+    (rw (r .scenario) at (r .passes .taken), c .row .ensures)
 
 enclosed : tie.Need-returns
 unfolding recordAnswerOf
 enclosed c =
-    let k = c .before .before .before .before in
+    let g = c .before .before .before in
+    let k = g .before .before in
     let s = now (k .before .before .args .bytes) in
     answers (scenarioIn s) (readRefusal s) (read-accepted s)
     (ap A.Enclosed (c .by-model .ensures)
-    ∙ record-enclosed s _ _ (sym (k .read .ensures .0) ∙ c .before .before .s .given .1))
+    ∙ record-enclosed s _ _ (sym (k .read .ensures .0) ∙ g .s .given .1))
 
 refused : tie.Need-returns-2
 unfolding recordAnswerOf
@@ -36,4 +38,11 @@ refused c =
 pub answer-record-spec : {M : Type 1} → statement M
 answer-record-spec =
     tie.close
-    (tie.spec (λ c κs. search needs) (λ c. search needs) accepted (λ c. search needs) enclosed refused)
+    (tie.spec
+    (λ c κs. search needs)
+    (λ c. search needs)
+    (λ c κs. search needs)
+    accepted
+    (λ c. search needs)
+    enclosed
+    refused)

@@ -13,12 +13,13 @@ use Rattle.engine.proofs.answer_record_in_doubles.Tie as tie
 
 accepted : tie.Need-by-model-requires
 accepted c κs =
-    let r = read-as _ _ _ (sym (c .before .before .before .read .ensures .0) ∙ c .before .s .given .1) in
-    rw (r .scenario) at (r .passes .taken)
+    let k = c .before .before in
+    let r = read-as _ _ _ (sym (k .before .before .read .ensures .0) ∙ k .s .given .1) in
+    (rw (r .scenario) at (r .passes .taken), c .row .ensures)
 
 small : tie.Need-as-doubles-requires
 small c κs =
-    let k = c .before .before in
+    let k = c .before .before .before in
     let r = read-as _ _ _ (sym (k .before .before .read .ensures .0) ∙ k .s .given .1) in
     rw (c .by-model .ensures) (sound _ (rw (r .scenario) at (r .passes .taken)) .small)
 
@@ -26,11 +27,12 @@ enclosed : tie.Need-returns
 unfolding recordAnswerOf
 enclosed c =
     let m = c .before in
-    let k = m .before .before .before .before in
+    let g = m .before .before .before in
+    let k = g .before .before in
     let s = now (k .before .before .args .bytes) in
     doubles-answers (scenarioIn s) (readRefusal s) (read-accepted s)
     (enclosed-in-doubles (c .as-doubles .ensures) (ap A.Enclosed (m .by-model .ensures)
-    ∙ record-enclosed s _ _ (sym (k .read .ensures .0) ∙ m .before .before .s .given .1)))
+    ∙ record-enclosed s _ _ (sym (k .read .ensures .0) ∙ g .s .given .1)))
 
 refused : tie.Need-returns-2
 unfolding recordAnswerOf
@@ -46,6 +48,7 @@ answer-record-in-doubles-spec =
     (tie.spec
     (λ c κs. search needs)
     (λ c. search needs)
+    (λ c κs. search needs)
     accepted
     small
     (λ c. search needs)

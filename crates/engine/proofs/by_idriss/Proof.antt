@@ -11,30 +11,23 @@ use Rattle.engine.proofs.by_idriss.Tie as tie
 
 median-takes : tie.Need-median-requires
 median-takes c κs =
-    let k = c .before .before in
-    let s = k .args .s in
-    let w = within-idriss s (k .pre .0) (k .pre .1) in
-    median-domain s (rw (c .idriss-row .ensures) (idriss-row (s .period) (w .period))) w
+    let s = c .before .args .s in
+    let p = c .before .pre in
+    let w = within-idriss s (p .0) (p .1) in
+    median-domain s (rw (p .2) (idriss-row (s .period) (w .period))) w
 
 sigma-takes : tie.Need-sigma-requires
 sigma-takes c κs =
-    let k = c .before .before .before in
+    let k = c .before .before in
     sigma-domain (k .args .s) (within-idriss (k .args .s) (k .pre .0) (k .pre .1))
 
 returns : tie.Need-returns
 unfolding enclosureOf rowFor
 returns c =
     let m = c .before in
-    let r = m .before in
-    let t = r .before in
-    rw (
-      t .before .pre .0,
-      c .sigma .ensures,
-      m .median .ensures,
-      r .idriss-row .ensures,
-      t .takes-table-3 .ensures,
-    ) refl
+    let t = m .before in
+    let p = t .before .pre in
+    rw (p .0, c .sigma .ensures, m .median .ensures, p .2, t .takes-table-3 .ensures) refl
 
 pub by-idriss-spec : {M : Type 1} → statement M
-by-idriss-spec =
-    tie.close (tie.spec (λ c κs. search needs) (λ c κs. search needs) median-takes sigma-takes returns)
+by-idriss-spec = tie.close (tie.spec (λ c κs. search needs) median-takes sigma-takes returns)
