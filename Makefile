@@ -21,7 +21,7 @@ BENCH := target/bench/bench
 # rt keeps what it has proved in target, so that two of it at a time would disturb each other there.
 ALONE := flock target/tests/lock
 
-.PHONY: run test lib examples bench longer definitions outside hosts probe program need need_hosts need_bench
+.PHONY: run test lib examples bench longer definitions outside hosts probe program need need_hosts need_bench need_test
 .PHONY: test_logarithm test_records test_models test_answers test_enclosures test_hosts
 .SILENT:
 
@@ -42,7 +42,7 @@ examples: hosts
 	for spectrum in $(SPECTRA); do echo "$$spectrum"; echo; $$spectrum || exit 1; echo; done
 
 # The nanoseconds depend on the machine and on what else it does; the instructions do not.
-bench: lib need_bench
+bench: need_bench lib
 	mkdir -p $(dir $(BENCH))
 	$(CC) -O3 -std=c11 $(WARN) -D_GNU_SOURCE -I$(LIB) -o $(BENCH) bench/*.c $(LIB)/libfusnoch.a -lm -lflint-arb -lflint
 	$(BENCH)
@@ -50,7 +50,7 @@ bench: lib need_bench
 	bench/instructions $(BENCH)
 
 # The tests outside Rattle of what the definitions say, and of the programs.
-definitions: need_hosts
+definitions: need_test
 	tools/logarithm_tables.py --check
 	python3 tests/test_exact.py
 	python3 tests/test_values.py
@@ -84,7 +84,7 @@ lib: need
 	tools/header crates/host/src/lib.rt > $(LIB)/fusnoch.h
 
 # The hosts' programs; cargo finds its settings from the directory it runs in.
-hosts: lib need_hosts
+hosts: need_hosts lib
 	mkdir -p target/hosts/c
 	for program in ask spectrum; do \
 	    $(CC) -O2 -std=c99 $(WARN) -I$(LIB) -o target/hosts/c/$$program hosts/c/$$program.c hosts/c/ground_motion.c \
@@ -109,8 +109,12 @@ program: need
 need:
 	tools/need
 
-need_hosts:
+# One after the other, as only one can install at a time.
+need_hosts: need
 	tools/need hosts
 
-need_bench:
-	tools/need bench
+need_bench: need
+	tools/need arb memory
+
+need_test: need
+	tools/need hosts memory

@@ -16,7 +16,6 @@ import importlib
 import os
 import random
 import re
-import subprocess
 import sys
 from decimal import Decimal
 from typing import NamedTuple, Union
@@ -24,6 +23,7 @@ from typing import NamedTuple, Union
 import streams
 import test_answers
 import test_records
+from ask import ask, run
 from records import BOORE_ATKINSON, IDRISS, PERIODS, Scenario, record, refusal
 from streams import WHOLE, Stream
 from test_enclosures import Tally, check_seen, line_fault
@@ -33,7 +33,6 @@ SEED = 19890118
 # How many questions of the other tests are drawn.
 DRAWN = 3000
 FAULTS_SHOWN = 20
-SECONDS = 300
 HOSTS = ('C', 'Rust', 'Python')
 # Python's own memory is not what is looked at.
 WATCHED = ('C', 'Rust')
@@ -157,27 +156,6 @@ def all_questions(rng, count):
 # The hosts' answers
 # ---------------------------------------------------------------------------
 
-def run(command, given=''):
-    """Run a command; return its output, and how it failed."""
-    try:
-        done = subprocess.run(command, input=given.encode('ascii'), stdout=subprocess.PIPE, stderr=subprocess.PIPE,
-                              timeout=SECONDS, check=False)
-    except (OSError, subprocess.SubprocessError) as error:
-        return '', [f'could not be run: {error}']
-    output, said = (data.decode('ascii', 'backslashreplace') for data in (done.stdout, done.stderr))
-    failed = done.returncode != 0 or said != ''
-    return output, [f'ended with status {done.returncode} and said {said[:1000]!r}'] if failed else []
-
-
-def ask(command, asked):
-    """Ask a host all questions; return its lines, and how it failed."""
-    output, faults = run(command, ''.join(question.line + '\n' for question in asked))
-    *lines, after = output.split('\n')
-    if len(lines) != len(asked) or after:
-        faults.append(f'{len(asked)} lines sent, {len(lines)} received, and {len(after)} characters after them')
-    return lines, faults
-
-
 class Answers:
     """The ends of each scenario, which are checked once and have to be the same ever after."""
 
@@ -206,7 +184,7 @@ def check_asks(answers, asks, asked):
     """Return the faults of all hosts, and where they differ."""
     faults, heard = [], {}
     for host, path in asks.items():
-        lines, failures = ask([path], asked)
+        lines, failures = ask([path], [question.line for question in asked])
         faults += [f'{host}: {failure}' for failure in failures]
         faults += answers.faults(host, asked, lines)
         heard[host] = lines
@@ -223,7 +201,7 @@ def check_memory(answers, asks, asked):
     """Return what valgrind finds."""
     faults = []
     for host in WATCHED:
-        lines, failures = ask([*VALGRIND, asks[host]], asked)
+        lines, failures = ask([*VALGRIND, asks[host]], [question.line for question in asked])
         faults += [f'{host} under valgrind: {failure}' for failure in failures]
         faults += answers.faults(f'{host} under valgrind', asked, lines)
     return faults
@@ -332,8 +310,12 @@ def python_calls(fusnoch):
     yield 'Refused', fusnoch.record, fusnoch.Scenario(*whole._replace(period=70))
 
 
-def zeros_faults(library):
-    """Yield what the library's own reading hands back with a refusal besides its number; the wrappers drop it."""
+def zeros_faults(fusnoch):
+    """Yield what the library's own reading and writing hand back with a refusal besides its number."""
+    library = fusnoch.LIBRARY
+    writing = library.fusnoch_write(fusnoch.c_scenario(fusnoch.Scenario(*WHOLE[IDRISS])), None, 0)
+    if (writing.number, writing.length) != (12, 0):
+        yield f'fusnoch_write: {writing.number}, {writing.length}: 12 and 0 are due'
     for number, data in streams.REFUSED.items():
         reading = library.fusnoch_read(data, len(data))
         others = [reading.length, *(getattr(reading.scenario, name) for name, _ in streams.FIELDS)]
@@ -356,7 +338,7 @@ def page_full_fault(fusnoch):
 
 def python_faults(fusnoch):
     """Yield the faults of Python's wrapper where no types see to the caller's mistakes."""
-    yield from zeros_faults(fusnoch.LIBRARY)
+    yield from zeros_faults(fusnoch)
     for due, function, *given in python_calls(fusnoch):
         got = raised(function, *given)
         if got != due:

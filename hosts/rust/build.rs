@@ -5,8 +5,8 @@ use std::{env, path::PathBuf};
 fn main() {
     let package = env::var("CARGO_MANIFEST_DIR").expect("cargo names the package's directory");
     let directory = match env::var("FUSNOCH_LIB") {
-        Ok(directory) => PathBuf::from(directory),
-        Err(_) => PathBuf::from(package).join("../../target/lib"),
+        Ok(directory) if !directory.is_empty() => PathBuf::from(directory),
+        _ => PathBuf::from(package).join("../../target/lib"),
     };
     let library = directory.join("libfusnoch.a");
     assert!(

@@ -29,6 +29,7 @@ scenarioFrom s =
       period = s .period;
     }
 
+-- and back
 abbrev fieldsOf : Scenario → HostScenario
 fieldsOf x =
     record {
@@ -40,7 +41,8 @@ fieldsOf x =
       period = x .period;
     }
 
-abbrev noFields : HostScenario
+-- the fields beside a refusal
+abbrev pub noFields : HostScenario
 noFields = record { model = 0; magnitude = 0; distance = 0; velocity = 0; mechanism = 0; period = 0 }
 
 -- "An answer has four signed whole numbers of units"; "A refusal returns its number only"

@@ -4,7 +4,7 @@ ghost use Rattle.scenario.specs.Refusal.{refusalOf};
 ghost use Rattle.record.specs.Outcome.{scenarioIn, readRefusal, readOf, writeOf, lentAfter};
 ghost use Rattle.engine.specs.Evaluation.{answerOf, recordAnswerOf, SmallAnswer, inDoubles};
 ghost use Rattle.host.specs.Told.{scenarioFrom, told, toldDoubles, toldReading, toldWriting};
-ghost use Rattle.host.specs.Promise.{AnswerPromise, DoublesPromise};
+ghost use Rattle.host.specs.Promise.{HostAnswerPromise, HostDoublesPromise, HostReadingPromise, HostWritingPromise};
 use engine::Answer;
 use engine::DoublesAnswer;
 use record::Reading;
@@ -131,7 +131,7 @@ pub extern "C" fn fusnoch_refusal(s: HostScenario) -> u8
 #[no_mangle]
 pub extern "C" fn fusnoch_answer_fields(s: HostScenario) -> HostAnswer
     ensures { λ r. ⌜ r ≡ told (answerOf (scenarioFrom s)) ⌝ }
-    ensures { λ r. ⌜ AnswerPromise (refusalOf (scenarioFrom s)) (scenarioFrom s) r ⌝ }
+    ensures { λ r. ⌜ HostAnswerPromise (refusalOf (scenarioFrom s)) (scenarioFrom s) r ⌝ }
 {
     tell(engine::answer_fields(scenario_from(s)))
 }
@@ -140,7 +140,7 @@ pub extern "C" fn fusnoch_answer_fields(s: HostScenario) -> HostAnswer
 #[no_mangle]
 pub extern "C" fn fusnoch_answer_record(bytes: &[u8]) -> HostAnswer
     ensures { λ r. ⌜ r ≡ told (recordAnswerOf (now (bytes .entry))) ⌝ }
-    ensures { λ r. ⌜ AnswerPromise (readRefusal (now (bytes .entry))) (scenarioIn (now (bytes .entry))) r ⌝ }
+    ensures { λ r. ⌜ HostAnswerPromise (readRefusal (now (bytes .entry))) (scenarioIn (now (bytes .entry))) r ⌝ }
 {
     tell(engine::answer_record(bytes))
 }
@@ -149,7 +149,7 @@ pub extern "C" fn fusnoch_answer_record(bytes: &[u8]) -> HostAnswer
 #[no_mangle]
 pub extern "C" fn fusnoch_answer_fields_in_doubles(s: HostScenario) -> HostDoubles
     ensures { λ r. ⌜ r ≡ toldDoubles (inDoubles (answerOf (scenarioFrom s))) ⌝ }
-    ensures { λ r. ⌜ DoublesPromise (refusalOf (scenarioFrom s)) (scenarioFrom s)
+    ensures { λ r. ⌜ HostDoublesPromise (refusalOf (scenarioFrom s)) (scenarioFrom s)
         (told (answerOf (scenarioFrom s))) r ⌝ }
 {
     tell_doubles(engine::answer_fields_in_doubles(scenario_from(s)))
@@ -159,7 +159,7 @@ pub extern "C" fn fusnoch_answer_fields_in_doubles(s: HostScenario) -> HostDoubl
 #[no_mangle]
 pub extern "C" fn fusnoch_answer_record_in_doubles(bytes: &[u8]) -> HostDoubles
     ensures { λ r. ⌜ r ≡ toldDoubles (inDoubles (recordAnswerOf (now (bytes .entry)))) ⌝ }
-    ensures { λ r. ⌜ DoublesPromise (readRefusal (now (bytes .entry))) (scenarioIn (now (bytes .entry)))
+    ensures { λ r. ⌜ HostDoublesPromise (readRefusal (now (bytes .entry))) (scenarioIn (now (bytes .entry)))
         (told (recordAnswerOf (now (bytes .entry)))) r ⌝ }
 {
     tell_doubles(engine::answer_record_in_doubles(bytes))
@@ -169,6 +169,7 @@ pub extern "C" fn fusnoch_answer_record_in_doubles(bytes: &[u8]) -> HostDoubles
 #[no_mangle]
 pub extern "C" fn fusnoch_read(bytes: &[u8]) -> HostReading
     ensures { λ r. ⌜ r ≡ toldReading (readOf (now (bytes .entry))) ⌝ }
+    ensures { λ r. ⌜ HostReadingPromise (now (bytes .entry)) r ⌝ }
 {
     match record::read(bytes) {
         Reading::Read(x, length) => HostReading {
@@ -203,6 +204,7 @@ pub extern "C" fn fusnoch_read(bytes: &[u8]) -> HostReading
 #[no_mangle]
 pub extern "C" fn fusnoch_write(s: HostScenario, out: &mut [u8]) -> HostWriting
     ensures { λ r. ⌜ r ≡ toldWriting (writeOf (scenarioFrom s) (now (out .entry))) ⌝ }
+    ensures { λ r. ⌜ HostWritingPromise (scenarioFrom s) (now (out .entry)) r ⌝ }
     ensures { λ _. ⌜ now (out .exit) ≡ lentAfter (scenarioFrom s) (now (out .entry)) ⌝ }
 {
     match record::write(scenario_from(s), out) {

@@ -4,6 +4,7 @@ use borrow.Author.Needs.{needs}
 use Rattle.record.specs.declared.Writing.the-variants as W
 use Rattle.record.specs.Outcome.{writeOf}
 use Rattle.host.specs.Told.{scenarioFrom, toldWriting}
+use Rattle.host.proofs.Laws.{writes}
 use Rattle.host.proofs.fusnoch_write.Statement.{statement}
 use Rattle.host.proofs.fusnoch_write.Tie as tie
 
@@ -14,7 +15,8 @@ written c =
     let a = f .before .before .args in
     let e : W.Length (c .before .length .given .0 .0) ≡ writeOf (scenarioFrom (a .s)) (a .out .now) =
     rw (f .scenario-from .ensures) at (sym (c .before .length .given .1) ∙ w .write .ensures .0) in
-    (ap toldWriting e, rw (f .scenario-from .ensures) at (w .write .ensures .1 .1))
+    let p = writes (scenarioFrom (a .s)) (a .out .now) (ap toldWriting e) in
+    (p .0, (p .1, rw (f .scenario-from .ensures) at (w .write .ensures .1 .1)))
 
 refused : tie.Need-returns-2
 refused c =
@@ -23,7 +25,8 @@ refused c =
     let a = f .before .before .args in
     let e : W.Refused (c .before .number .given .0 .0) ≡ writeOf (scenarioFrom (a .s)) (a .out .now) =
     rw (f .scenario-from .ensures) at (sym (c .before .number .given .1) ∙ w .write .ensures .0) in
-    (ap toldWriting e, rw (f .scenario-from .ensures) at (w .write .ensures .1 .1))
+    let p = writes (scenarioFrom (a .s)) (a .out .now) (ap toldWriting e) in
+    (p .0, (p .1, rw (f .scenario-from .ensures) at (w .write .ensures .1 .1)))
 
 pub fusnoch-write-spec : {M : Type 1} → statement M
 fusnoch-write-spec =
