@@ -5,7 +5,7 @@
 # make bench     measures the library beside plain C doubles and Arb
 # make longer    the test of the program on many more records
 
-export PATH := $(PATH):/opt/rattle/bin
+export PATH := $(PATH):/opt/rattle/bin:$(HOME)/.cargo/bin
 export PYTHONDONTWRITEBYTECODE := 1
 SHELL := /bin/bash
 CC := gcc
