@@ -88,22 +88,14 @@ pub slow-is : (s : SiteRow) (v : ℕ) {l ratio term b2 n : Ends} → l ≡ lnOf 
 unfolding slowSlopeOf
 slow-is s v l ratio term b2 n = rw (n, term, b2, ratio, l) refl
 
-module _ (v : ℕ) {l : Ends} where
-  pub ln-slow : v < 7_600 → l ≡ lnOf 7_600 v → l ≡ velocityLnOf v
-  unfolding velocityLnOf
-  ln-slow h e = rw (lt-ltb v 7_600 h) e
+-- the size of ln(V/760) is that of ln(760/V) below 760 m/s
+pub velocity-slow : (v : ℕ) → v < 7_600 → velocityLnOf v ≡ lnOf 7_600 v
+unfolding velocityLnOf
+velocity-slow v h = rw (lt-ltb v 7_600 h) refl
 
-  pub ln-fast : 7_600 ≤ v → l ≡ lnOf v 7_600 → l ≡ velocityLnOf v
-  unfolding velocityLnOf
-  ln-fast h e = rw (le-ltb v 7_600 h) e
-
-  pub slow-ln : v < 7_600 → l ≡ velocityLnOf v → l ≡ lnOf 7_600 v
-  unfolding velocityLnOf
-  slow-ln h e = rw (lt-ltb v 7_600 h) at e
-
-  pub fast-ln : 7_600 ≤ v → l ≡ velocityLnOf v → l ≡ lnOf v 7_600
-  unfolding velocityLnOf
-  fast-ln h e = rw (le-ltb v 7_600 h) at e
+pub velocity-fast : (v : ℕ) → 7_600 ≤ v → velocityLnOf v ≡ lnOf v 7_600
+unfolding velocityLnOf
+velocity-fast v h = rw (le-ltb v 7_600 h) refl
 
 pub fast-is : (s : SiteRow) (v : ℕ) {l ratio n : Ends} → l ≡ lnOf 7_600 v → ratio ≡ productOf l overFast →
     n ≡ multipleOf (200_000 * s .2) ratio → n ≡ fastSlopeOf s v

@@ -19,6 +19,11 @@ module _ (s : List ℕ) where
   pub read-accepted : readRefusal s ≡ 0 → refusalOf (scenarioIn s) ≡ 0
   read-accepted e = accepted s e .taken
 
+  pub scenario-accepted : (x : Scenario) (n : ℕ) → readOf s ≡ Read x n → refusalOf x ≡ 0
+  scenario-accepted x n e =
+      let r = read-as s x n e in
+      rw (r .scenario) at (r .passes .taken)
+
   pub record-enclosed : (x : Scenario) (n : ℕ) → readOf s ≡ Read x n → A.Enclosed (enclosureOf x) ≡ recordAnswerOf s
   unfolding recordAnswerOf answerBy
   record-enclosed x n e =
@@ -35,7 +40,4 @@ module _ (s : List ℕ) where
   -- "Answering from a record .. answers the scenario read": as answering from its fields does
   pub record-as-fields : (x : Scenario) (n : ℕ) → readOf s ≡ Read x n → recordAnswerOf s ≡ answerOf x
   unfolding answerOf answerBy
-  record-as-fields x n e =
-      let r = read-as s x n e in
-      let taken : refusalOf x ≡ 0 = rw (r .scenario) at (r .passes .taken) in
-      rw taken (sym (record-enclosed x n e))
+  record-as-fields x n e = rw (scenario-accepted x n e) (sym (record-enclosed x n e))

@@ -3,19 +3,17 @@ use mathlib.Core.Path.{_∙_, ap, sym}
 use borrow.Author.Needs.{needs}
 use denote.Ref.{now}
 use Rattle.record.specs.Outcome.{scenarioIn, readRefusal}
-use Rattle.record.proofs.ReadingLaws.{read-as}
 use Rattle.engine.specs.declared.Answer.the-variants as A
 use Rattle.engine.specs.Evaluation.{recordAnswerOf}
 use Rattle.engine.proofs.Laws.{answers}
-use Rattle.engine.proofs.RecordLaws.{read-accepted, record-enclosed, record-refused}
+use Rattle.engine.proofs.RecordLaws.{read-accepted, scenario-accepted, record-enclosed, record-refused}
 use Rattle.engine.proofs.answer_record.Statement.{statement}
 use Rattle.engine.proofs.answer_record.Tie as tie
 
 accepted : tie.Need-by-model-requires
 accepted c κs =
     let k = c .before .before in
-    let r = read-as _ _ _ (sym (k .before .before .read .ensures .0) ∙ k .s .given .1) in
-    (rw (r .scenario) at (r .passes .taken), c .row .ensures)
+    (scenario-accepted _ _ _ (sym (k .before .before .read .ensures .0) ∙ k .s .given .1), c .row .ensures)
 
 enclosed : tie.Need-returns
 unfolding recordAnswerOf

@@ -3,25 +3,23 @@ use mathlib.Core.Path.{_∙_, ap, sym}
 use borrow.Author.Needs.{needs}
 use denote.Ref.{now}
 use Rattle.record.specs.Outcome.{scenarioIn, readRefusal}
-use Rattle.record.proofs.ReadingLaws.{read-as}
 use Rattle.engine.specs.declared.Answer.the-variants as A
 use Rattle.engine.specs.Evaluation.{recordAnswerOf}
 use Rattle.engine.proofs.Laws.{sound, enclosed-in-doubles, refused-in-doubles, doubles-answers}
-use Rattle.engine.proofs.RecordLaws.{read-accepted, record-enclosed, record-refused}
+use Rattle.engine.proofs.RecordLaws.{read-accepted, scenario-accepted, record-enclosed, record-refused}
 use Rattle.engine.proofs.answer_record_in_doubles.Statement.{statement}
 use Rattle.engine.proofs.answer_record_in_doubles.Tie as tie
 
 accepted : tie.Need-by-model-requires
 accepted c κs =
     let k = c .before .before in
-    let r = read-as _ _ _ (sym (k .before .before .read .ensures .0) ∙ k .s .given .1) in
-    (rw (r .scenario) at (r .passes .taken), c .row .ensures)
+    (scenario-accepted _ _ _ (sym (k .before .before .read .ensures .0) ∙ k .s .given .1), c .row .ensures)
 
 small : tie.Need-as-doubles-requires
 small c κs =
     let k = c .before .before .before in
-    let r = read-as _ _ _ (sym (k .before .before .read .ensures .0) ∙ k .s .given .1) in
-    rw (c .by-model .ensures) (sound _ (rw (r .scenario) at (r .passes .taken)) .small)
+    let accepted = scenario-accepted _ _ _ (sym (k .before .before .read .ensures .0) ∙ k .s .given .1) in
+    rw (c .by-model .ensures) (sound _ accepted .small)
 
 enclosed : tie.Need-returns
 unfolding recordAnswerOf

@@ -1,17 +1,18 @@
 -- `site::fast_slope` meets its contract.
+use mathlib.Core.Path.{_∙_}
 use native.Mathlib.Nat.{le-of-lt}
 use native.Mathlib.Omega.{arith}
 use borrow.Author.Needs.{needs}
 use Rattle.outward.proofs.Laws.{multiple-takes, product-takes}
 use Rattle.boore_atkinson.proofs.SiteSizes.{over-fast-sized, fast-ln, fast-ratio, fast-sized}
-use Rattle.boore_atkinson.proofs.Sums.{slow-ln, fast-is}
+use Rattle.boore_atkinson.proofs.Sums.{velocity-slow, fast-is}
 use Rattle.boore_atkinson.proofs.site.fast_slope.Statement.{statement}
 use Rattle.boore_atkinson.proofs.site.fast_slope.Tie as tie
 
 product-requires : tie.Need-product-requires
 product-requires c κs =
     let p = c .pre in
-    rw (slow-ln (c .args .v) (p .2) (p .3))
+    rw (p .3 ∙ velocity-slow (c .args .v) (p .2))
     (product-takes (fast-ln (p .0) (omega arith) (p .1) (le-of-lt (p .2))) over-fast-sized (omega arith))
 
 cast-multiple : tie.Need-cast-multiple
@@ -24,7 +25,7 @@ multiple-requires : tie.Need-multiple-requires
 multiple-requires c κs =
     let k = c .before .before in
     let p = k .pre in
-    rw (c .before .product .ensures, slow-ln (k .args .v) (p .2) (p .3))
+    rw (c .before .product .ensures, p .3 ∙ velocity-slow (k .args .v) (p .2))
     (multiple-takes _ (fast-ratio (p .0) (omega arith) (p .1) (le-of-lt (p .2))) (omega (arith, p .0 .b2)))
 
 returns : tie.Need-returns
@@ -33,7 +34,7 @@ returns c =
     let a = k .args in
     let p = k .pre in
     let e =
-    fast-is (a .s) (a .v) (slow-ln (a .v) (p .2) (p .3)) (c .before .before .product .ensures) (c .multiple .ensures) in
+    fast-is (a .s) (a .v) (p .3 ∙ velocity-slow (a .v) (p .2)) (c .before .before .product .ensures) (c .multiple .ensures) in
     (e, rw e (fast-sized (p .0) (omega arith) (p .1) (le-of-lt (p .2))))
 
 pub fast-slope-spec : {M : Type 1} → statement M

@@ -5,7 +5,7 @@ use borrow.Author.Needs.{needs}
 use Rattle.outward.proofs.Laws.{multiple-takes}
 use Rattle.outward.specs.Evaluation.{multipleOf}
 use Rattle.boore_atkinson.proofs.SiteSizes.{velocity-sized, linear-sized}
-use Rattle.boore_atkinson.proofs.Sums.{slow-ln, fast-ln, linear-slow, linear-fast}
+use Rattle.boore_atkinson.proofs.Sums.{velocity-slow, velocity-fast, linear-slow, linear-fast}
 use Rattle.boore_atkinson.proofs.site.linear.Statement.{statement}
 use Rattle.boore_atkinson.proofs.site.linear.Tie as tie
 
@@ -26,7 +26,7 @@ returns c =
     let a = t .before .before .args in
     let p = t .before .before .pre in
     let h = c .before .if1 .taken in
-    let term = t .multiple .ensures ∙ ap (multipleOf _) (slow-ln (a .v) h (p .3)) in
+    let term = t .multiple .ensures ∙ ap (multipleOf _) (p .3 ∙ velocity-slow (a .v) h) in
     let e = linear-slow (a .s) (a .v) (c .exact .ensures) h term in
     (e, rw e (linear-sized (p .0) (p .1) (p .2)))
 
@@ -36,7 +36,7 @@ returns-2 c =
     let a = t .before .before .args in
     let p = t .before .before .pre in
     let h = c .before .if1 .left in
-    let term = t .multiple .ensures ∙ ap (multipleOf _) (fast-ln (a .v) h (p .3)) in
+    let term = t .multiple .ensures ∙ ap (multipleOf _) (p .3 ∙ velocity-fast (a .v) h) in
     let e = linear-fast (a .s) (a .v) (c .exact2 .ensures) h term in
     (e, rw e (linear-sized (p .0) (p .1) (p .2)))
 

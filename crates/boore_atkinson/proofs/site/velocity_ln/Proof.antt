@@ -1,6 +1,7 @@
 -- `site::velocity_ln` meets its contract.
+use mathlib.Core.Path.{sym, _∙_}
 use borrow.Author.Needs.{needs}
-use Rattle.boore_atkinson.proofs.Sums.{ln-slow, ln-fast}
+use Rattle.boore_atkinson.proofs.Sums.{velocity-slow, velocity-fast}
 use Rattle.boore_atkinson.proofs.site.velocity_ln.Statement.{statement}
 use Rattle.boore_atkinson.proofs.site.velocity_ln.Tie as tie
 
@@ -9,6 +10,6 @@ velocity-ln-spec =
     tie.close
     (tie.spec
     (λ c κs. search needs)
-    (λ c. ln-slow _ (c .before .if1 .taken) (c .ln .ensures))
+    (λ c. c .ln .ensures ∙ sym (velocity-slow _ (c .before .if1 .taken)))
     (λ c κs. search needs)
-    (λ c. ln-fast _ (c .before .if1 .left) (c .ln2 .ensures)))
+    (λ c. c .ln2 .ensures ∙ sym (velocity-fast _ (c .before .if1 .left))))
