@@ -51,6 +51,9 @@ bench: need_bench lib
 
 # The tests outside Rattle of what the definitions say, and of the programs.
 definitions: need_test
+	tools/edits
+	tools/contracts --check
+	python3 tests/test_contracts.py
 	tools/logarithm_tables.py --check
 	python3 tests/test_exact.py
 	python3 tests/test_values.py
@@ -58,7 +61,8 @@ definitions: need_test
 	cmp $(SAMPLE).stdin crates/enclosures/stdin
 	cmp $(SAMPLE).stdout crates/enclosures/stdout
 
-outside: test_logarithm test_records test_models test_answers test_enclosures test_hosts
+# The test of the program comes first, as it needs no library, and runs while the libraries are built.
+outside: test_enclosures test_logarithm test_models test_records test_answers test_hosts
 
 test_logarithm test_models: test_%: probe
 	python3 tests/$@.py $(PROBE)
@@ -95,11 +99,8 @@ hosts: need_hosts lib
 # A program over the proved libraries, for the tests.
 probe: need
 	mkdir -p target/tests
-	for library in probe record_probe model_probe; do \
-	    $(ALONE) rt staticlib $$library > target/tests/$$library.log 2>&1 || { cat target/tests/$$library.log; exit 1; }; \
-	done
-	$(CC) -O2 -std=c99 $(WARN) -o $(PROBE) tests/probe.c \
-	    target/staticlib/libprobe.a target/staticlib/librecord_probe.a target/staticlib/libmodel_probe.a
+	$(ALONE) rt staticlib probes > target/tests/probes.log 2>&1 || { cat target/tests/probes.log; exit 1; }
+	$(CC) -O2 -std=c99 $(WARN) -o $(PROBE) tests/probe.c target/staticlib/libprobes.a
 
 # The program, proved.
 program: need

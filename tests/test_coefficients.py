@@ -3,7 +3,7 @@
 
 Run as: python3 tests/test_coefficients.py [CRATES]
 
-The tables of crates/idriss/specs/Tables.antt and of crates/boore_atkinson/specs/Tables.antt are read as text and
+The tables of crates/idriss_theory/specs/Tables.antt and of crates/boore_atkinson_theory/specs/Tables.antt are read as text and
 compared, number by number and in order, with tests/coefficients.txt, which has the numbers as printed.
 CRATES is the directory of the crates, ../crates unless given.
 """
@@ -16,8 +16,8 @@ from decimal import Decimal
 HERE = os.path.dirname(os.path.abspath(__file__))
 PRINTED = os.path.join(HERE, 'coefficients.txt')
 CRATES = os.path.join(HERE, '..', 'crates')
-IDRISS = os.path.join('idriss', 'specs', 'Tables.antt')
-BOORE_ATKINSON = os.path.join('boore_atkinson', 'specs', 'Tables.antt')
+IDRISS = os.path.join('idriss_theory', 'specs', 'Tables.antt')
+BOORE_ATKINSON = os.path.join('boore_atkinson_theory', 'specs', 'Tables.antt')
 
 # Document 01, 'The scenario', in thousandths of a second; 0 is peak acceleration.
 IDRISS_PERIODS = [10, 20, 30, 40, 50, 75, 100, 150, 200, 250, 300, 400, 500, 750,

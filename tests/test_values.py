@@ -1,7 +1,7 @@
 #!/usr/bin/env python3
 """The tables of proved values against exact fractions.
 
-Each row of crates/values/specs/Table.antt and Pairs.antt is read as text and worked
+Each row of values_theory/specs/Table.antt and pairs_theory/specs/Pairs.antt is read as text and worked
 out by exact.py, records.py, models.py and formula_pairs.py, which were written from
 document 01 and the papers alone.
 """
@@ -18,7 +18,7 @@ from models import (BOORE_ATKINSON_PERIODS, IDRISS_PERIODS, alpha_part, beta_fac
 from records import Scenario, read
 
 HERE = os.path.dirname(os.path.abspath(__file__))
-SPECS = os.path.join(HERE, '..', 'crates', 'values', 'specs')
+CRATES = os.path.join(HERE, '..', 'crates')
 
 FRACTION = r'\(pos ([\d_]+) over ([\d_]+)\)'
 ENDS = FRACTION + ' ' + FRACTION
@@ -52,7 +52,7 @@ WANTED = ('pairAt 1 (ln 3 1)', 'pairAt 2 (ln 2 1)', 'atEvery (ln 7 7)',
 
 def rows(file_name, name):
     """Return the rows of a table, from its name to the empty list, as text."""
-    with open(os.path.join(SPECS, file_name), encoding='utf-8') as file:
+    with open(os.path.join(CRATES, file_name), encoding='utf-8') as file:
         text = file.read()
     body = re.search(rf'^{name} =\n(.*?)^    \[\]$', text, re.M | re.S).group(1)
     body = re.sub(r'^\s*--.*\n', '', body, flags=re.M)
@@ -167,7 +167,7 @@ def row_holds(row):
 
 def main():
     """Check every row."""
-    table, pairs = rows('Table.antt', 'values'), rows('Pairs.antt', 'pairs')
+    table, pairs = rows('values_theory/specs/Table.antt', 'values'), rows('pairs_theory/specs/Pairs.antt', 'pairs')
     wrong = [row for row in table + pairs if not row_holds(row)]
     missing = [subject for subject in WANTED
                if not any(row.startswith(subject + ' ') for row in table)]

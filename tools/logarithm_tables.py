@@ -1,9 +1,9 @@
 #!/usr/bin/env python3
-"""The logarithm's two tables of factors, as they stand in crates/logarithm.
+"""The logarithm's two tables of factors, as they stand in crates/logarithm_tables_theory and crates/logarithm_tables.
 
 usage: tools/logarithm_tables.py [--check]
 
-Writes src/table.rt, specs/Tables.antt and the two proofs that the code's tables are the definitions' tables;
+Writes the definitions' tables, the code's, and the two proofs that the code's tables are the definitions';
 with --check it only says whether the files are what it would write.
 
 A factor is a whole number `by` near top/x for the x at its place, and the logarithm of top/by in units of 10^-9/4096,
@@ -17,7 +17,7 @@ UNIT = 4_096_000_000_000  # units of 10^-9/4096 in 1
 FINE = UNIT * 1_000_000  # the sums' own unit
 WALK = 262_144  # the sums run over q/WALK, down from WALK
 
-ROOT = os.path.join(os.path.dirname(os.path.abspath(__file__)), "..", "crates", "logarithm")
+ROOT = os.path.join(os.path.dirname(os.path.abspath(__file__)), "..", "crates")
 
 
 def lower_logarithms():
@@ -62,13 +62,13 @@ def definition(name, comment, rows):
 def proof(name, rows):
     lines = [
         "-- Written by tools/logarithm_tables.py.",
-        f"-- `table::{name}` meets its contract: an answer for each place of the table, and one for every place past them.",
+        f"-- `{name}` meets its contract: an answer for each place of the table, and one for every place past them.",
         "use mathlib.Core.Path.{refl}",
         "use lib.ListN.{take}",
-        f"use Rattle.logarithm.specs.Tables.{{factor, {name}, {name}At}}",
-        "use Rattle.logarithm.proofs.Places.{last}",
-        f"use Rattle.logarithm.proofs.table.{name}.Statement.{{statement}}",
-        f"use Rattle.logarithm.proofs.table.{name}.Tie as tie",
+        "use Rattle.toolbox_theory.proofs.Places.{last}",
+        f"use Rattle.logarithm_tables_theory.specs.Tables.{{factor, {name}, {name}At}}",
+        f"use Rattle.logarithm_tables.proofs.{name}.Statement.{{statement}}",
+        f"use Rattle.logarithm_tables.proofs.{name}.Tie as tie",
         "",
         f"pub {name}-spec : {{M : Type 1}} → statement M",
         f"unfolding {name}At",
@@ -76,21 +76,17 @@ def proof(name, rows):
         "    tie.close",
         "    (tie.spec",
     ]
-    lines += [f"    (λ c. rw (c .match .keys{i}) refl)" for i in range(1, len(rows))]
     by, logarithm = rows[-1]
     n = len(rows) - 1
+    arms = [f"(λ c. rw (c .match .keys{i}) refl)" for i in range(1, len(rows))]
+    lines += ["    " + " ".join(arms[i : i + 3]) for i in range(0, n, 3)]
     return lines + [f"    (λ c. last (factor {grouped(by)} {grouped(logarithm)}) (take {n} {name}) (c .before .args .i) (c .match .rest)))"]
 
 
 CODE_HEAD = """// Written by tools/logarithm_tables.py. Two tables of factors that bring a number near 1, with the logarithm of each.
 ghost use mathlib.Core.Path.{_≡_};
-ghost use Rattle.logarithm.specs.Tables.{coarseAt, fineAt};
-
-// A whole number, and the logarithm of 4096 (coarse) or 16384 (fine) over it in units of 10^-9/4096, rounded down.
-pub struct Factor {
-    pub by: u64,
-    pub logarithm: u64,
-}
+ghost use Rattle.logarithm_tables_theory.specs.Tables.{coarseAt, fineAt};
+use logarithm_tables_theory::Factor;
 
 // ln 2, in the same units: the last of the coarse logarithms.
 pub const LN_2: u64 = LN2;"""
@@ -99,7 +95,7 @@ DEFINITION_HEAD = """-- Written by tools/logarithm_tables.py. The tables of the 
 use mathlib.Core.List.{List, [], _∷_}
 use Prim.Native.Nat.{ℕ}
 use lib.ListN.{getD}
-use Rattle.logarithm.specs.declared.table.Factor.{Factor}
+use Rattle.logarithm_tables_theory.specs.declared.Factor.{Factor}
 
 abbrev pub factor : ℕ → ℕ → Factor
 factor by logarithm = record { by = by; logarithm = logarithm }
@@ -122,9 +118,9 @@ def files():
     for name, comment, rows in tables:
         source += code(name, comment, rows)
         definitions += definition(name, comment, rows)
-        written[f"proofs/table/{name}/Proof.antt"] = proof(name, rows)
-    written["src/table.rt"] = source
-    written["specs/Tables.antt"] = definitions
+        written[f"logarithm_tables/proofs/{name}/Proof.antt"] = proof(name, rows)
+    written["logarithm_tables/src/lib.rt"] = source
+    written["logarithm_tables_theory/specs/Tables.antt"] = definitions
     return {name: "\n".join(lines) + "\n" for name, lines in written.items()}
 
 
@@ -139,7 +135,7 @@ def main():
             with open(path, "w", encoding="utf-8") as f:
                 f.write(text)
         elif open(path, encoding="utf-8").read() != text:
-            sys.exit(f"crates/logarithm/{name} is not what tools/logarithm_tables.py writes")
+            sys.exit(f"crates/{name} is not what tools/logarithm_tables.py writes")
 
 
 main()

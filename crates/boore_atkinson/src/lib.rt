@@ -3,23 +3,17 @@ ghost use mathlib.Core.Path.{_≡_};
 ghost use mathlib.Core.Bool.{cond};
 ghost use Prim.Native.Nat.{_<_};
 ghost use lib.Dec.{eqb};
-ghost use Rattle.boore_atkinson.specs.Tables.{rowAt, totalAt};
-ghost use Rattle.boore_atkinson.specs.Promise.{MedianDomain, NonlinearDomain};
-ghost use Rattle.boore_atkinson.specs.Evaluation.{plusOf, endsOf, medianOf, nonlinearEndsOf, sigmaOf};
-ghost use Rattle.boore_atkinson.specs.Sizes.{MotionSized};
-
-mod rock;
-mod site;
-mod table;
-
+ghost use Rattle.scenario_theory.specs.Rows.{rowCount};
+ghost use Rattle.boore_atkinson_theory.specs.Tables.{rowAt, totalAt};
+ghost use Rattle.boore_atkinson_theory.specs.Promise.{MedianDomain, NonlinearDomain};
+ghost use Rattle.boore_atkinson_theory.specs.Evaluation.{plusOf, endsOf, medianOf, nonlinearEndsOf, sigmaOf};
+ghost use Rattle.boore_atkinson_theory.specs.Sizes.{MotionSized};
+use boore_atkinson_rock as rock;
+use boore_atkinson_site as site;
+use boore_atkinson_tables as table;
+use boore_atkinson_theory::Motion;
+use boore_atkinson_theory::TotalRow;
 use signed::between;
-use table::TotalRow;
-
-// Something between the gain's ends, less something between the loss's.
-pub struct Motion {
-    pub gain: logarithm::Ends,
-    pub loss: logarithm::Ends,
-}
 
 fn plus(a: Motion, b: Motion) -> Motion
     requires { ⌜ MotionSized a 400_000_000_000 400_000_000_000 × MotionSized b 400_000_000_000 400_000_000_000 ⌝ }
@@ -31,21 +25,21 @@ fn plus(a: Motion, b: Motion) -> Motion
     }
 }
 
-fn ends(a: Motion) -> signed::Ends
+fn ends(a: Motion) -> signed_theory::Ends
     requires { ⌜ MotionSized a 800_000_000_000 800_000_000_000 ⌝ }
     ensures { λ r. ⌜ r ≡ endsOf a ⌝ }
 {
     between(a.gain.low, a.loss.high, a.gain.high, a.loss.low)
 }
 
-// The median by row k of the tables, 0 for PGA. What is promised of it is MedianEnds of specs/Promise.
+// The median by row k of the tables, 0 for PGA. What is promised of it is MedianEnds of boore_atkinson_theory.
 pub fn median(
     k: usize,
     magnitude: u16,
     projection_distance: u16,
     velocity: u16,
     mechanism: u8,
-) -> signed::Ends
+) -> signed_theory::Ends
     requires { ⌜ MedianDomain k magnitude «projection_distance» velocity ⌝ }
     ensures { λ r. ⌜ r ≡ medianOf (rowAt k) magnitude «projection_distance» velocity mechanism ⌝ }
 {
@@ -62,8 +56,8 @@ pub fn median(
     ends(plus(plus(motion, linear), nonlinear))
 }
 
-// The nonlinear part by row k, where −p lies in b. What is promised of it is NonlinearEnds of specs/Promise.
-pub fn nonlinear(k: usize, velocity: u16, b: logarithm::Ends) -> signed::Ends
+// The nonlinear part by row k, where −p lies in b. What is promised of it is NonlinearEnds of boore_atkinson_theory.
+pub fn nonlinear(k: usize, velocity: u16, b: logarithm_theory::Ends) -> signed_theory::Ends
     requires { ⌜ NonlinearDomain k velocity b ⌝ }
     ensures { λ r. ⌜ r ≡ nonlinearEndsOf (rowAt k .site) velocity b ⌝ }
 {
@@ -81,9 +75,9 @@ fn total(t: TotalRow, mechanism: u8) -> u32
     t.1
 }
 
-// Sigma by row k. What is promised of it is SigmaEnds of specs/Promise.
-pub fn sigma(k: usize, mechanism: u8) -> signed::Ends
-    requires { ⌜ k < 22 ⌝ }
+// Sigma by row k. What is promised of it is SigmaEnds of boore_atkinson_theory.
+pub fn sigma(k: usize, mechanism: u8) -> signed_theory::Ends
+    requires { ⌜ k < rowCount ⌝ }
     ensures { λ r. ⌜ r ≡ sigmaOf (totalAt k) mechanism ⌝ }
 {
     let z = 1_000_000 * total(table::total_at(k), mechanism) as u64;

@@ -2,19 +2,14 @@
 ghost use mathlib.Core.Path.{_≡_};
 ghost use Prim.Native.Nat.{_+_, _≤_};
 ghost use lib.ListN.{length, take};
+ghost use Rattle.report_theory.specs.Lines.{lineOf, lastLineOf};
+ghost use Rattle.enclosures_theory.specs.Output.{ended, linesOf};
+ghost use Rattle.enclosures_theory.specs.Steps.{Added, Gone};
 ghost use Rattle.io.specs.Counts.{Counts};
-ghost use Rattle.report.specs.Lines.{lineOf, lastLineOf};
-ghost use Rattle.enclosures.specs.Output.{ended, linesOf};
-ghost use Rattle.enclosures.specs.Steps.{Added, Gone};
-use engine::Answer;
+use enclosures_theory::Printed;
+use engine_theory::Answer;
 use libc::STDOUT_FILENO;
-use record::Reading;
-
-// How many lines there are, and the place after them.
-struct Printed {
-    count: u64,
-    next: usize,
-}
+use record_theory::Reading;
 
 // Puts the line of an answer and its end at a place, and answers the place after it. No line is longer than 110 bytes.
 fn put_line(out: &mut [u8], at: usize, position: u64, a: Answer) -> usize
@@ -46,7 +41,7 @@ fn put_lines(s: &[u8], out: &mut [u8]) -> Printed
     let mut next: usize = 0;
     while at < s.len() {
         count += 1;
-        let r = record::read(&s[at..]);
+        let r = record_reading::read(&s[at..]);
         match r {
             Reading::Read(x, n) => {
                 next = put_line(out, next, count, engine::answer_fields(x));

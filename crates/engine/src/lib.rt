@@ -3,43 +3,21 @@
 ghost use mathlib.Core.Path.{_≡_};
 ghost use Prim.Native.Nat.{_^_, _<_};
 ghost use lib.Signed.{mag};
-ghost use Rattle.scenario.specs.Refusal.{idrissRow, booreAtkinsonRow, refusalOf};
-ghost use Rattle.record.specs.Outcome.{scenarioIn, readRefusal};
-ghost use Rattle.engine.specs.Promise.{AnswerPromise, DoublesPromise};
-ghost use Rattle.engine.specs.Evaluation.{scenarioWith, rowOf, enclosureOf, answerOf, recordAnswerOf, SmallEnclosure};
-ghost use Rattle.engine.specs.Evaluation.{doubleOf, doublesOf, inDoubles};
-use record::Reading;
-use scenario::Scenario;
-use signed::Ends;
-
-// The ends of the median and those of sigma.
-pub struct Enclosure {
-    pub median: Ends,
-    pub sigma: Ends,
-}
-
-// What answering gives: four ends, or the number with which it is turned away.
-pub enum Answer {
-    Enclosed(Enclosure),
-    Refused(u8),
-}
-
-// The four ends as doubles.
-pub struct Doubles {
-    pub median_low: f64,
-    pub median_high: f64,
-    pub sigma_low: f64,
-    pub sigma_high: f64,
-}
-
-// What answering in doubles gives.
-pub enum DoublesAnswer {
-    Enclosed(Doubles),
-    Refused(u8),
-}
+ghost use Rattle.scenario_theory.specs.Refusal.{idrissRow, booreAtkinsonRow, refusalOf};
+ghost use Rattle.record_theory.specs.Outcome.{scenarioIn, readRefusal};
+ghost use Rattle.engine_theory.specs.Promise.{AnswerPromise, DoublesPromise};
+ghost use Rattle.engine_theory.specs.Steps.{Looked, TakenBy};
+ghost use Rattle.engine_theory.specs.Evaluation.{scenarioWith, rowOf, enclosureOf, answerOf, recordAnswerOf};
+ghost use Rattle.engine_theory.specs.Evaluation.{SmallEnclosure, doubleOf, doublesOf, inDoubles};
+pub use engine_theory::Answer;
+pub use engine_theory::Doubles;
+pub use engine_theory::DoublesAnswer;
+pub use engine_theory::Enclosure;
+use record_theory::Reading;
+use scenario_theory::Scenario;
 
 fn by_idriss(s: Scenario, k: usize) -> Enclosure
-    requires { ⌜ (s .model ≡ 1) × (refusalOf s ≡ 0) × (k ≡ idrissRow (s .period)) ⌝ }
+    requires { ⌜ TakenBy 1 idrissRow s k ⌝ }
     ensures { λ r. ⌜ r ≡ enclosureOf s ⌝ }
 {
     let third = idriss::takes_table_3(s.magnitude);
@@ -50,7 +28,7 @@ fn by_idriss(s: Scenario, k: usize) -> Enclosure
 }
 
 fn by_boore_atkinson(s: Scenario, k: usize) -> Enclosure
-    requires { ⌜ (s .model ≡ 2) × (refusalOf s ≡ 0) × (k ≡ booreAtkinsonRow (s .period)) ⌝ }
+    requires { ⌜ TakenBy 2 booreAtkinsonRow s k ⌝ }
     ensures { λ r. ⌜ r ≡ enclosureOf s ⌝ }
 {
     Enclosure {
@@ -64,9 +42,9 @@ fn row(model: u8, period: u16) -> usize
     ensures { λ r. ⌜ r ≡ rowOf model period ⌝ }
 {
     if model == 1 {
-        return scenario::idriss_row(period);
+        return scenario_rows::idriss_row(period);
     }
-    scenario::boore_atkinson_row(period)
+    scenario_rows::boore_atkinson_row(period)
 }
 
 // By the scenario's own model, k the row of its period. The fields pass in registers, as a struct would be stored and
@@ -80,8 +58,7 @@ fn by_model(
     period: u16,
     k: usize,
 ) -> Enclosure
-    requires { ⌜ refusalOf (scenarioWith model magnitude distance velocity mechanism period) ≡ 0 ⌝ }
-    requires { ⌜ k ≡ rowOf model period ⌝ }
+    requires { ⌜ Looked (scenarioWith model magnitude distance velocity mechanism period) k ⌝ }
     ensures { λ r. ⌜ r ≡ enclosureOf (scenarioWith model magnitude distance velocity mechanism period) ⌝ }
 {
     let s = Scenario {
@@ -124,7 +101,7 @@ pub fn answer_record(bytes: &[u8]) -> Answer
     ensures { λ r. ⌜ r ≡ recordAnswerOf (now (bytes .entry)) ⌝ }
     ensures { λ r. ⌜ AnswerPromise (readRefusal (now (bytes .entry))) (scenarioIn (now (bytes .entry))) r ⌝ }
 {
-    match record::read(bytes) {
+    match record_reading::read(bytes) {
         Reading::Read(s, _) => Answer::Enclosed(by_model(
             s.model,
             s.magnitude,
@@ -181,9 +158,10 @@ pub fn answer_fields_in_doubles(s: Scenario) -> DoublesAnswer
 // Answers the record at the front of any bytes, in doubles that equal the whole units.
 pub fn answer_record_in_doubles(bytes: &[u8]) -> DoublesAnswer
     ensures { λ r. ⌜ r ≡ inDoubles (recordAnswerOf (now (bytes .entry))) ⌝ }
-    ensures { λ r. ⌜ DoublesPromise (readRefusal (now (bytes .entry))) (scenarioIn (now (bytes .entry))) (recordAnswerOf (now (bytes .entry))) r ⌝ }
+    ensures { λ r. ⌜ DoublesPromise (readRefusal (now (bytes .entry))) (scenarioIn (now (bytes .entry)))
+        (recordAnswerOf (now (bytes .entry))) r ⌝ }
 {
-    match record::read(bytes) {
+    match record_reading::read(bytes) {
         Reading::Read(s, _) => DoublesAnswer::Enclosed(as_doubles(by_model(
             s.model,
             s.magnitude,

@@ -6,19 +6,19 @@ use native.Mathlib.Omega.{arith}
 use lib.IntN.{pos}
 use lib.Ieee.{ofBits, ofInt}
 use lib.ListN.{length}
-use Rattle.scenario.specs.declared.Scenario.{Scenario}
-use Rattle.scenario.specs.Refusal.{refusalOf}
-use Rattle.scenario.specs.Checks.{unlessRefused}
-use Rattle.record.specs.declared.Reading.the-variants as R
-use Rattle.record.specs.declared.Writing.the-variants as W
-use Rattle.record.specs.Layout.{recordOf}
-use Rattle.record.specs.Outcome.{mapIn, scenarioIn, lengthBy, readRefusal, readOf, writeRefusal, writeOf}
-use Rattle.engine.specs.declared.Answer.{Answer}
-use Rattle.engine.specs.declared.Answer.the-variants as A
-use Rattle.engine.specs.Promise as engine
-use Rattle.engine.specs.Evaluation.{SmallAnswer, answerBy, doublesOf, inDoubles}
-use Rattle.engine.proofs.Exact.{equals}
-use Rattle.engine.proofs.Laws.{promised, small, in-doubles}
+use Rattle.scenario_theory.specs.declared.Scenario.{Scenario}
+use Rattle.scenario_theory.specs.Refusal.{refusalOf}
+use Rattle.scenario_theory.specs.Checks.{unlessRefused}
+use Rattle.record_theory.specs.declared.Reading.the-variants as R
+use Rattle.record_theory.specs.declared.Writing.the-variants as W
+use Rattle.record_theory.specs.Layout.{recordOf}
+use Rattle.record_theory.specs.Outcome.{mapIn, scenarioIn, lengthBy, readRefusal, readOf, writeRefusal, writeOf}
+use Rattle.engine_theory.specs.declared.Answer.{Answer}
+use Rattle.engine_theory.specs.declared.Answer.the-variants as A
+use Rattle.engine_theory.specs.Promise as engine
+use Rattle.engine_theory.specs.Evaluation.{SmallAnswer, answerBy, doublesOf, inDoubles}
+use Rattle.engine_theory.proofs.Exact.{equals}
+use Rattle.engine_theory.proofs.Laws.{promised, small, in-doubles}
 use Rattle.host.specs.declared.HostAnswer.{HostAnswer}
 use Rattle.host.specs.declared.HostDoubles.{HostDoubles}
 use Rattle.host.specs.declared.HostReading.{HostReading}
@@ -32,7 +32,7 @@ none-enclose h = absurd (omega (arith, ap length (h .four)))
 
 told-promised : {k : ℕ} {s : Scenario} (a : Answer) → engine.AnswerPromise k s a → HostAnswerPromise k s (told a)
 told-promised (A.Enclosed e) p =
-    record { number = p .number; enclosed = p .enclosed; zeros = λ h. absurd (h (omega (arith, p .number))) }
+    record { number = p .number; enclosed = p .enclosed; zeros = λ h. absurd (h (omega arith)) }
 told-promised (A.Refused k) p =
     record { number = p .number; enclosed = λ z. absurd (none-enclose (p .enclosed z)); zeros = λ h. refl }
 
@@ -77,17 +77,12 @@ reads s e = (e, rw e (go (readRefusal s) refl)) where
 
   go : (k : ℕ) → readRefusal s ≡ k → HostReadingPromise s (told-by k)
   go zero z =
-      record {
-        number = sym z;
-        scenario = λ h. refl;
-        length = λ h. refl;
-        zeros = λ h. absurd (h z);
-      }
+      record { number = sym z; scenario = λ h. refl; length = λ h. refl; zeros = λ h. absurd (h z) }
   go (suc k) z =
       record {
         number = sym z;
-        scenario = λ h. absurd (omega (arith, z, h));
-        length = λ h. absurd (omega (arith, z, h));
+        scenario = λ h. absurd (omega arith);
+        length = λ h. absurd (omega arith);
         zeros = λ h. (refl, refl);
       }
 
@@ -100,4 +95,4 @@ writes x lent e = (e, rw e (go (writeRefusal x lent) refl)) where
 
   go : (k : ℕ) → writeRefusal x lent ≡ k → HostWritingPromise x lent (told-by k)
   go zero z = record { number = sym z; written = λ h. refl; zero = λ h. absurd (h z) }
-  go (suc k) z = record { number = sym z; written = λ h. absurd (omega (arith, z, h)); zero = λ h. refl }
+  go (suc k) z = record { number = sym z; written = λ h. absurd (omega arith); zero = λ h. refl }

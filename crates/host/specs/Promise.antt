@@ -6,10 +6,10 @@ use Prim.Native.Nat.{ℕ}
 use lib.IntN.{ℤ, pos}
 use lib.Ieee.{Float}
 use lib.ListN.{length}
-use Rattle.scenario.specs.declared.Scenario.{Scenario}
-use Rattle.record.specs.Layout.{recordOf}
-use Rattle.record.specs.Outcome.{mapIn, scenarioIn, lengthBy, readRefusal, writeRefusal}
-use Rattle.engine.specs.Promise.{EnclosesBoth, AllEqual}
+use Rattle.scenario_theory.specs.declared.Scenario.{Scenario}
+use Rattle.record_theory.specs.Layout.{recordOf}
+use Rattle.record_theory.specs.Outcome.{mapIn, scenarioIn, lengthBy, readRefusal, writeRefusal}
+use Rattle.engine_theory.specs.Promise.{EnclosesBoth, AllEqual}
 use Rattle.host.specs.declared.HostAnswer.{HostAnswer}
 use Rattle.host.specs.declared.HostDoubles.{HostDoubles}
 use Rattle.host.specs.declared.HostReading.{HostReading}

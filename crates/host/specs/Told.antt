@@ -2,15 +2,15 @@
 -- pass, so a refused one is the number with zeros, and an accepted one has the number 0.
 use lib.IntN.{pos}
 use lib.Ieee.{Float, binary64, ofBits}
-use Rattle.scenario.specs.declared.Scenario.{Scenario}
-use Rattle.record.specs.declared.Reading.{Reading}
-use Rattle.record.specs.declared.Reading.the-variants as R
-use Rattle.record.specs.declared.Writing.{Writing}
-use Rattle.record.specs.declared.Writing.the-variants as W
-use Rattle.engine.specs.declared.Answer.{Answer}
-use Rattle.engine.specs.declared.Answer.the-variants as A
-use Rattle.engine.specs.declared.DoublesAnswer.{DoublesAnswer}
-use Rattle.engine.specs.declared.DoublesAnswer.the-variants as D
+use Rattle.scenario_theory.specs.declared.Scenario.{Scenario}
+use Rattle.record_theory.specs.declared.Reading.{Reading}
+use Rattle.record_theory.specs.declared.Reading.the-variants as R
+use Rattle.record_theory.specs.declared.Writing.{Writing}
+use Rattle.record_theory.specs.declared.Writing.the-variants as W
+use Rattle.engine_theory.specs.declared.Answer.{Answer}
+use Rattle.engine_theory.specs.declared.Answer.the-variants as A
+use Rattle.engine_theory.specs.declared.DoublesAnswer.{DoublesAnswer}
+use Rattle.engine_theory.specs.declared.DoublesAnswer.the-variants as D
 use Rattle.host.specs.declared.HostScenario.{HostScenario}
 use Rattle.host.specs.declared.HostAnswer.{HostAnswer}
 use Rattle.host.specs.declared.HostDoubles.{HostDoubles}

@@ -1,15 +1,16 @@
 // The engine's functions as C calls them: plain structs, numbers and bytes in, plain structs and numbers out.
 ghost use mathlib.Core.Path.{_≡_};
-ghost use Rattle.scenario.specs.Refusal.{refusalOf};
-ghost use Rattle.record.specs.Outcome.{scenarioIn, readRefusal, readOf, writeOf, lentAfter};
-ghost use Rattle.engine.specs.Evaluation.{answerOf, recordAnswerOf, SmallAnswer, inDoubles};
+ghost use Rattle.scenario_theory.specs.Refusal.{refusalOf};
+ghost use Rattle.record_theory.specs.Outcome.{scenarioIn, readRefusal, readOf, writeOf, lentAfter};
+ghost use Rattle.engine_theory.specs.Evaluation.{answerOf, recordAnswerOf, SmallAnswer, inDoubles};
 ghost use Rattle.host.specs.Told.{scenarioFrom, told, toldDoubles, toldReading, toldWriting};
-ghost use Rattle.host.specs.Promise.{HostAnswerPromise, HostDoublesPromise, HostReadingPromise, HostWritingPromise};
-use engine::Answer;
-use engine::DoublesAnswer;
-use record::Reading;
-use record::Writing;
-use scenario::Scenario;
+ghost use Rattle.host.specs.Promise.{HostAnswerPromise, HostDoublesPromise, HostReadingPromise};
+ghost use Rattle.host.specs.Promise.{HostWritingPromise};
+use engine_theory::Answer;
+use engine_theory::DoublesAnswer;
+use record_theory::Reading;
+use record_theory::Writing;
+use scenario_theory::Scenario;
 
 // The fields of a scenario, whole numbers: magnitude in 0.01, distance in 0.01 km (to the rupture for model 1, Idriss
 // 2014; to its surface projection for model 2, Boore and Atkinson 2008), velocity V_S30 in 0.1 m/s, period in 0.001 s
@@ -171,7 +172,7 @@ pub extern "C" fn fusnoch_read(bytes: &[u8]) -> HostReading
     ensures { λ r. ⌜ r ≡ toldReading (readOf (now (bytes .entry))) ⌝ }
     ensures { λ r. ⌜ HostReadingPromise (now (bytes .entry)) r ⌝ }
 {
-    match record::read(bytes) {
+    match record_reading::read(bytes) {
         Reading::Read(x, length) => HostReading {
             number: 0,
             scenario: HostScenario {
@@ -207,7 +208,7 @@ pub extern "C" fn fusnoch_write(s: HostScenario, out: &mut [u8]) -> HostWriting
     ensures { λ r. ⌜ HostWritingPromise (scenarioFrom s) (now (out .entry)) r ⌝ }
     ensures { λ _. ⌜ now (out .exit) ≡ lentAfter (scenarioFrom s) (now (out .entry)) ⌝ }
 {
-    match record::write(scenario_from(s), out) {
+    match record_writing::write(scenario_from(s), out) {
         Writing::Length(length) => HostWriting { number: 0, length },
         Writing::Refused(number) => HostWriting { number, length: 0 },
     }

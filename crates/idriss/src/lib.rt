@@ -2,20 +2,18 @@
 ghost use mathlib.Core.Path.{_≡_};
 ghost use mathlib.Core.Bool.{true};
 ghost use Prim.Native.Nat.{_≤_};
-ghost use Rattle.outward.specs.Evaluation.{Sized};
-ghost use Rattle.scenario.specs.Lists.{among};
-ghost use Rattle.scenario.specs.Refusal.{idriss};
-ghost use Rattle.idriss.specs.Tables.{takesTable3, rowAt};
-ghost use Rattle.idriss.specs.Median.{F};
-ghost use Rattle.idriss.specs.Sigma.{heldTo};
-ghost use Rattle.idriss.specs.Promise.{MedianDomain, SigmaDomain};
-ghost use Rattle.idriss.specs.Evaluation.{AlphaDomain, RowLimits, alphaSum, gainsOf, lossesOf, distanceTermOf, siteTermOf, medianOf, periodTermOf, sigmaOf};
-
-mod period;
-mod table;
-
-use signed::Ends;
-use table::Row;
+ghost use Rattle.toolbox_theory.specs.Lists.{among};
+ghost use Rattle.outward_theory.specs.Evaluation.{Sized};
+ghost use Rattle.scenario_theory.specs.Refusal.{idriss};
+ghost use Rattle.idriss_theory.specs.Tables.{takesTable3, rowAt};
+ghost use Rattle.idriss_theory.specs.Median.{F};
+ghost use Rattle.idriss_theory.specs.Sigma.{heldTo};
+ghost use Rattle.idriss_theory.specs.Promise.{MedianDomain, SigmaDomain};
+ghost use Rattle.idriss_theory.specs.Evaluation.{AlphaDomain, RowLimits, alphaSum, gainsOf, lossesOf, distanceTermOf};
+ghost use Rattle.idriss_theory.specs.Evaluation.{siteTermOf, medianOf, periodTermOf, sigmaOf};
+use idriss_tables as table;
+use idriss_theory::Row;
+use signed_theory::Ends;
 
 // Whether the magnitude takes Table 3, and not Table 2.
 pub fn takes_table_3(magnitude: u16) -> bool
@@ -62,7 +60,7 @@ fn losses(r: Row, m: u64, rupture_distance: u64) -> u64
 }
 
 // (β1 + β2 M) ln(R + 10).
-fn distance_term(r: Row, m: u64, rupture_distance: u64) -> logarithm::Ends
+fn distance_term(r: Row, m: u64, rupture_distance: u64) -> logarithm_theory::Ends
     requires { ⌜ RowLimits r × (450 ≤ m) × (m ≤ 790) × («rupture_distance» ≤ 17_500) ⌝ }
     ensures { λ e. ⌜ (e ≡ distanceTermOf r m «rupture_distance») × Sized e 5 42_000_000_001 ⌝ }
 {
@@ -71,7 +69,7 @@ fn distance_term(r: Row, m: u64, rupture_distance: u64) -> logarithm::Ends
 }
 
 // −ξ ln V; a V above 1200 m/s counts as 1200.
-fn site_term(r: Row, velocity: u16) -> logarithm::Ends
+fn site_term(r: Row, velocity: u16) -> logarithm_theory::Ends
     requires { ⌜ RowLimits r × (4_500 ≤ velocity) ⌝ }
     ensures { λ e. ⌜ (e ≡ siteTermOf r velocity) × Sized e 4 31_500_000_001 ⌝ }
 {
@@ -79,7 +77,7 @@ fn site_term(r: Row, velocity: u16) -> logarithm::Ends
     outward::multiple(20_000 * r.8 as u64, logarithm::ln(v, 10))
 }
 
-// The median by row k of Table 3 where `third`, else of Table 2. What is promised of it is MedianEnds of specs/Promise.
+// The median by row k of Table 3 where `third`, else of Table 2. What is promised of it is MedianEnds of idriss_theory.
 pub fn median(
     third: bool,
     k: usize,
@@ -121,14 +119,14 @@ fn held_to(least: u16, most: u16, x: u16) -> u16
 }
 
 // The size of 0.035 ln T.
-fn period_term(t: u16) -> logarithm::Ends
+fn period_term(t: u16) -> logarithm_theory::Ends
     requires { ⌜ among (idriss .periods) t ≡ true ⌝ }
     ensures { λ e. ⌜ (e ≡ periodTermOf t) × Sized e 2 735_000_001 ⌝ }
 {
-    outward::multiple(700_000, period::logarithm(t))
+    outward::multiple(700_000, table::period_logarithm(t))
 }
 
-// 1.18 + 0.035 ln T − 0.06 M, T the period. What is promised of it is SigmaEnds of specs/Promise.
+// 1.18 + 0.035 ln T − 0.06 M, T the period. What is promised of it is SigmaEnds of idriss_theory.
 pub fn sigma(period: u16, magnitude: u16) -> Ends
     requires { ⌜ SigmaDomain period ⌝ }
     ensures { λ r. ⌜ r ≡ sigmaOf period magnitude ⌝ }

@@ -1,24 +1,13 @@
 // The natural logarithm of a quotient and the square root of a whole number, each by ends that enclose the exact value.
 ghost use mathlib.Core.Path.{_≡_};
 ghost use Prim.Native.Nat.{_^_, _<_};
-ghost use Rattle.exact.specs.Root.{wholeRoot};
-ghost use Rattle.logarithm.specs.Promise.{LnDomain};
-ghost use Rattle.logarithm.specs.Evaluation.{Mantissa, Normal, NearOne};
-ghost use Rattle.logarithm.specs.Evaluation.{scaledBy, scaledOf, nearOneOf, mantissaLnOf, scaledLnOf, lnOf, rootOf};
-
-mod table;
-
-// In units of 10^-9.
-pub struct Ends {
-    pub low: u64,
-    pub high: u64,
-}
-
-// mantissa 2^octave / 2^35, the mantissa from 2^35 to below 2^36.
-struct Scaled {
-    octave: u64,
-    mantissa: u64,
-}
+ghost use Rattle.exact_theory.specs.Root.{wholeRoot};
+ghost use Rattle.logarithm_theory.specs.Promise.{LnDomain};
+ghost use Rattle.logarithm_theory.specs.Evaluation.{Mantissa, Normal, NearOne, scaledBy, scaledOf, nearOneOf};
+ghost use Rattle.logarithm_theory.specs.Evaluation.{mantissaLnOf, scaledLnOf, lnOf, rootOf};
+use logarithm_tables as table;
+pub use logarithm_theory::Ends;
+use logarithm_theory::Scaled;
 
 // a/b, rounded down.
 fn scale(a: u64, b: u64) -> Scaled
@@ -67,7 +56,7 @@ fn scaled_ln(octave: u64, mantissa: u64) -> Ends
     }
 }
 
-// ln(a/b), for 1 ≤ b ≤ a < 2^29. What is promised of the ends is LnEnds of specs/Promise, shown in proofs/Laws.
+// ln(a/b), for 1 ≤ b ≤ a < 2^29. What is promised of the ends is LnEnds of logarithm_theory.
 pub fn ln(a: u64, b: u64) -> Ends
     requires { ⌜ LnDomain a b ⌝ }
     ensures { λ r. ⌜ r ≡ lnOf a b ⌝ }
@@ -101,7 +90,7 @@ fn whole_root(n: u64) -> u64
     s
 }
 
-// The root of x lies from r/131072 to (r + 1)/131072, r the result: RootEnds of specs/Promise, shown in proofs/Laws.
+// The root of x lies from r/131072 to (r + 1)/131072, r the result: RootEnds of logarithm_theory.
 pub fn root(x: u64) -> u64
     requires { ⌜ x < 2 ^ 29 ⌝ }
     ensures { λ r. ⌜ r ≡ rootOf x ⌝ }

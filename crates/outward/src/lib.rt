@@ -1,8 +1,9 @@
 // Steps with what lies between two ends, none of them below zero, in units of 10^-9, rounded outward.
 ghost use mathlib.Core.Path.{_≡_};
 ghost use Prim.Native.Nat.{min, max};
-ghost use Rattle.outward.specs.Evaluation.{MultipleDomain, ProductDomain, SumDomain, multipleOf, productOf, sumOf, spanOf};
-use logarithm::Ends;
+ghost use Rattle.outward_theory.specs.Evaluation.{MultipleDomain, ProductDomain, SumDomain, multipleOf, productOf};
+ghost use Rattle.outward_theory.specs.Evaluation.{sumOf, spanOf};
+use logarithm_theory::Ends;
 
 // c/20,000,000 of what lies between e's ends.
 pub fn multiple(c: u64, e: Ends) -> Ends

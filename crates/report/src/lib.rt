@@ -3,29 +3,20 @@ ghost use mathlib.Core.Path.{_≡_};
 ghost use Prim.Native.Nat.{_+_, _≤_};
 ghost use lib.ListN.{length};
 ghost use lib.Seq.{sets};
-ghost use Rattle.record.specs.Steps.{Put};
-ghost use Rattle.engine.specs.declared.Answer.the-variants.{Enclosed, Refused};
-ghost use Rattle.report.specs.Text.{decimal};
-ghost use Rattle.report.specs.Lines.{lineOf, endBytes, lastLineOf, lengthOn, bytesAfter};
-ghost use Rattle.report.specs.Steps.{wordOf, wordsFor, signBytes, wordBytes, bothBytes, headBytes};
-use engine::Answer;
-use engine::Enclosure;
-use signed::Ends;
-
-// A number by its sign and its size.
-struct Word {
-    minus: bool,
-    size: u64,
-}
-
-struct Words {
-    low: Word,
-    high: Word,
-}
+ghost use Rattle.stores_theory.specs.Stores.{Put};
+ghost use Rattle.engine_theory.specs.declared.Answer.the-variants.{Enclosed, Refused};
+ghost use Rattle.report_theory.specs.Text.{decimal};
+ghost use Rattle.report_theory.specs.Lines.{lineOf, endBytes, lastLineOf, lengthOn, bytesAfter};
+ghost use Rattle.report_theory.specs.Steps.{Counted, wordOf, wordsFor, signBytes, wordBytes, bothBytes, headBytes};
+use engine_theory::Answer;
+use engine_theory::Enclosure;
+use report_theory::Word;
+use report_theory::Words;
+use signed_theory::Ends;
 
 // How many decimal digits n has.
 fn decimal_length(n: u64) -> usize
-    ensures { λ r. ⌜ (r ≡ length (decimal n)) × (r ≤ 20) ⌝ }
+    ensures { λ r. ⌜ Counted (decimal n) 20 r ⌝ }
 {
     if n < 10 {
         return 1;
@@ -53,7 +44,7 @@ fn split_ends(e: Ends) -> Words
 
 // The length of a space and a word.
 fn word_length(w: Word) -> usize
-    ensures { λ r. ⌜ (r ≡ length (wordBytes w)) × (r ≤ 22) ⌝ }
+    ensures { λ r. ⌜ Counted (wordBytes w) 22 r ⌝ }
 {
     let n = decimal_length(w.size);
     if w.minus {
@@ -63,7 +54,7 @@ fn word_length(w: Word) -> usize
 }
 
 fn words_length(w: Words) -> usize
-    ensures { λ r. ⌜ (r ≡ length (bothBytes w)) × (r ≤ 44) ⌝ }
+    ensures { λ r. ⌜ Counted (bothBytes w) 44 r ⌝ }
 {
     word_length(w.low) + word_length(w.high)
 }

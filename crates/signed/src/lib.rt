@@ -2,13 +2,8 @@
 ghost use mathlib.Core.Path.{_≡_};
 ghost use Prim.Native.Nat.{_+_, _^_, _<_};
 ghost use lib.IntN.{natAbs, subℕ};
-ghost use Rattle.signed.specs.Evaluation.{betweenOf};
-
-// A low end and a high end.
-pub struct Ends {
-    pub low: i64,
-    pub high: i64,
-}
+ghost use Rattle.signed_theory.specs.Evaluation.{betweenOf};
+pub use signed_theory::Ends;
 
 // a − b, where its size is below 2^63.
 pub fn difference(a: u64, b: u64) -> i64

@@ -2,39 +2,12 @@
 use mathlib.Core.Path.{_∙_, ap}
 use native.Mathlib.Omega.{arith}
 use borrow.Author.Needs.{needs}
-use Rattle.boore_atkinson.specs.Tables.{rowAt}
-use Rattle.boore_atkinson.specs.Evaluation.{endsOf, plusOf}
-use Rattle.boore_atkinson.proofs.Laws.{motion-wider, plus-sized}
-use Rattle.boore_atkinson.proofs.Sums.{median-is}
+use Rattle.boore_atkinson_theory.specs.Tables.{rowAt}
+use Rattle.boore_atkinson_theory.specs.Evaluation.{endsOf, plusOf}
+use Rattle.boore_atkinson_theory.proofs.Laws.{motion-wider, plus-sized}
+use Rattle.boore_atkinson_theory.proofs.Sums.{median-is}
 use Rattle.boore_atkinson.proofs.median.Statement.{statement}
 use Rattle.boore_atkinson.proofs.median.Tie as tie
-
-distance-at-requires : tie.Need-distance-at-requires
-distance-at-requires c κs = search needs
-
-cast-effective-distance : tie.Need-cast-effective-distance
-cast-effective-distance c = search needs
-
-effective-distance-requires : tie.Need-effective-distance-requires
-effective-distance-requires c κs = search needs
-
-magnitude-at-requires : tie.Need-magnitude-at-requires
-magnitude-at-requires c κs = search needs
-
-rock-requires : tie.Need-rock-requires
-rock-requires c κs = search needs
-
-site-at-requires : tie.Need-site-at-requires
-site-at-requires c κs = search needs
-
-velocity-ln-requires : tie.Need-velocity-ln-requires
-velocity-ln-requires c κs = search needs
-
-linear-requires : tie.Need-linear-requires
-linear-requires c κs = search needs
-
-below-for-requires : tie.Need-below-for-requires
-below-for-requires c κs = search needs
 
 nonlinear-part-requires : tie.Need-nonlinear-part-requires
 nonlinear-part-requires c κs =
@@ -85,17 +58,6 @@ pub median-spec : {M : Type 1} → statement M
 median-spec =
     tie.close
     (tie.spec
-    distance-at-requires
-    cast-effective-distance
-    effective-distance-requires
-    magnitude-at-requires
-    rock-requires
-    site-at-requires
-    velocity-ln-requires
-    linear-requires
-    below-for-requires
-    nonlinear-part-requires
-    plus-requires
-    plus-requires-2
-    ends-requires
-    returns)
+    (λ c κs. search needs) (λ c. search needs) (λ c κs. search needs) (λ c κs. search needs) (λ c κs. search needs)
+    (λ c κs. search needs) (λ c κs. search needs) (λ c κs. search needs) (λ c κs. search needs) nonlinear-part-requires
+    plus-requires plus-requires-2 ends-requires returns)

@@ -1,21 +1,9 @@
 -- `nonlinear` meets its contract.
 use mathlib.Core.Path.{_∙_, ap}
 use borrow.Author.Needs.{needs}
-use Rattle.boore_atkinson.specs.Evaluation.{endsOf, nonlinearOf, nonlinearEndsOf}
+use Rattle.boore_atkinson_theory.specs.Evaluation.{endsOf, nonlinearOf, nonlinearEndsOf}
 use Rattle.boore_atkinson.proofs.nonlinear.Statement.{statement}
 use Rattle.boore_atkinson.proofs.nonlinear.Tie as tie
-
-site-at-requires : tie.Need-site-at-requires
-site-at-requires c κs = search needs
-
-velocity-ln-requires : tie.Need-velocity-ln-requires
-velocity-ln-requires c κs = search needs
-
-nonlinear-part-requires : tie.Need-nonlinear-part-requires
-nonlinear-part-requires c κs = search needs
-
-ends-requires : tie.Need-ends-requires
-ends-requires c κs = search needs
 
 returns : tie.Need-returns
 unfolding nonlinearEndsOf
@@ -28,4 +16,6 @@ returns c =
 
 pub nonlinear-spec : {M : Type 1} → statement M
 nonlinear-spec =
-    tie.close (tie.spec site-at-requires velocity-ln-requires nonlinear-part-requires ends-requires returns)
+    tie.close
+    (tie.spec
+    (λ c κs. search needs) (λ c κs. search needs) (λ c κs. search needs) (λ c κs. search needs) returns)

@@ -4,13 +4,13 @@ use Prim.Native.Nat.{_+_, _-_, _≤_}
 use native.Mathlib.Omega.{arith}
 use borrow.Author.Needs.{needs}
 use lib.ListN.{length}
-use Rattle.record.proofs.Laws.{read-size}
-use Rattle.engine.specs.Evaluation.{answerOf}
-use Rattle.report.specs.Lines.{lineOf}
-use Rattle.enclosures.specs.Output.{ended}
-use Rattle.enclosures.specs.Steps.{Added, Going}
-use Rattle.enclosures.proofs.Adding.{part-length}
-use Rattle.enclosures.proofs.Steps.{start, read-step, refused-step, end-step, has-room}
+use Rattle.record_theory.proofs.Laws.{read-size}
+use Rattle.engine_theory.specs.Evaluation.{answerOf}
+use Rattle.report_theory.specs.Lines.{lineOf}
+use Rattle.enclosures_theory.specs.Output.{ended}
+use Rattle.enclosures_theory.specs.Steps.{Added, Going}
+use Rattle.enclosures_theory.proofs.Adding.{part-length}
+use Rattle.enclosures_theory.proofs.Steps.{start, read-step, refused-step, end-step, has-room}
 use Rattle.enclosures.proofs.put_lines.Statement.{statement}
 use Rattle.enclosures.proofs.put_lines.Tie as tie
 
@@ -20,36 +20,12 @@ Inv-loop s out₀ at₀ count₀ next₀ out at count next = Going s out at coun
 abbrev μ-loop : tie.MeasureT-loop
 μ-loop s out₀ at₀ count₀ next₀ out at count next = length s - at
 
-loop-holds : tie.Need-loop-holds Inv-loop μ-loop
-loop-holds c = (start _ _, refl)
-
-add-count : tie.Need-add-count Inv-loop μ-loop
-add-count c = search needs
-
-sub-read : tie.Need-sub-read Inv-loop μ-loop
-sub-read c = search needs
-
-part-read-start : tie.Need-part-read-start Inv-loop μ-loop
-part-read-start c = search needs
-
-part-read-end : tie.Need-part-read-end Inv-loop μ-loop
-part-read-end c = search needs
-
-read-requires : tie.Need-read-requires Inv-loop μ-loop
-read-requires c κs = search needs
-
-enum-known-r : tie.Need-enum-known-r Inv-loop μ-loop
-enum-known-r c = search needs
-
-answer-fields-requires : tie.Need-answer-fields-requires Inv-loop μ-loop
-answer-fields-requires c κs = search needs
-
 put-line-requires : tie.Need-put-line-requires Inv-loop μ-loop
 put-line-requires c κs =
     let k = c .before .before .before .before .before .before .before in
     let l = k .before .loop in
     let p = k .before .before .before .before .pre in
-    omega (arith, has-room (l .inv .0) (k .loop-test .taken) (p .1), l .inv .1, p .0)
+    omega (arith, has-room (l .inv .0) (k .loop-test .taken) (p .1))
 
 -- what an accepted read takes of the bytes that are left
 taken : (c : tie.After-slice-known2 Inv-loop μ-loop) →
@@ -62,15 +38,12 @@ taken c =
     let l = t .before in
     let size = read-size _ _ _ (sym (r .before .before .read .ensures .0) ∙ r .r .given .1) in
     let whole = part-length (l .before .before .before .args .s .now) (l .loop .at) in
-    (size .0, omega (arith, size .1, whole, t .loop-test .taken))
+    (size .0, omega arith)
 
 add-at : tie.Need-add-at Inv-loop μ-loop
 add-at c =
     let l = c .before .before .before .before .before .before .before .before .before .before .before in
-    record { fits = omega (arith, taken c, l .before .before .before .pre .1) }
-
-loop-less : tie.Need-loop-less Inv-loop μ-loop
-loop-less c = omega (arith, taken c)
+    record { fits = omega (arith, taken c) }
 
 loop-again : tie.Need-loop-again Inv-loop μ-loop
 loop-again c =
@@ -87,18 +60,12 @@ loop-again c =
       put .room ∙ l .inv .1,
     )
 
-enum-known-r-2 : tie.Need-enum-known-r-2 Inv-loop μ-loop
-enum-known-r-2 c = search needs
-
 put-line-requires-2 : tie.Need-put-line-requires-2 Inv-loop μ-loop
 put-line-requires-2 c κs =
     let k = c .before .before .before .before .before .before in
     let l = k .before .loop in
     let p = k .before .before .before .before .pre in
-    omega (arith, has-room (l .inv .0) (k .loop-test .taken) (p .1), l .inv .1, p .0)
-
-same-length : tie.Need-same-length Inv-loop μ-loop
-same-length c = search needs
+    omega (arith, has-room (l .inv .0) (k .loop-test .taken) (p .1))
 
 returns : tie.Need-returns Inv-loop μ-loop
 returns c =
@@ -109,9 +76,6 @@ returns c =
     refused-step (l .loop .inv .0) (t .loop-test .taken) _ (l .before .before .before .pre .1)
     (sym (r .before .before .read .ensures .0) ∙ r .r2 .given .1) (p .put-line2 .ensures)
 
-same-length-2 : tie.Need-same-length-2 Inv-loop μ-loop
-same-length-2 c = search needs
-
 returns-2 : tie.Need-returns-2 Inv-loop μ-loop
 returns-2 c =
     let l = c .before in
@@ -121,23 +85,9 @@ pub put-lines-spec : {M : Type 1} → statement M
 put-lines-spec =
     tie.close
     (tie.spec
-    Inv-loop
-    μ-loop
-    loop-holds
-    add-count
-    sub-read
-    part-read-start
-    part-read-end
-    read-requires
-    enum-known-r
-    answer-fields-requires
-    put-line-requires
-    add-at
-    loop-less
-    loop-again
-    enum-known-r-2
-    put-line-requires-2
-    same-length
-    returns
-    same-length-2
-    returns-2)
+    Inv-loop μ-loop
+    (λ c. (start _ _, refl))
+    (λ c. search needs) (λ c. search needs) (λ c. search needs) (λ c. search needs) (λ c κs. search needs)
+    (λ c. search needs) (λ c κs. search needs) put-line-requires add-at
+    (λ c. omega (arith, taken c))
+    loop-again (λ c. search needs) put-line-requires-2 (λ c. search needs) returns (λ c. search needs) returns-2)

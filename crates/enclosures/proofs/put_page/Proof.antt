@@ -5,7 +5,7 @@ use native.Mathlib.Omega.{arith}
 use borrow.Author.Needs.{needs}
 use lib.ListN.{length}
 use lib.Seq.{length-take-le}
-use Rattle.enclosures.proofs.Steps.{last-place}
+use Rattle.enclosures_theory.proofs.Steps.{last-place}
 use Rattle.enclosures.proofs.put_page.Statement.{statement}
 use Rattle.enclosures.proofs.put_page.Tie as tie
 
@@ -17,9 +17,8 @@ returns c =
     let last = q .put-last-line .ensures in
     let gone = p .put-lines .ensures in
     let most : q .put-last-line .result ≤ length (q .put-last-line .last .0) =
-    omega (arith, last-place gone last, last .room, p .put-lines .kept, k .pre .0) in
+    omega (arith, last-place gone last) in
     (last .bytes ∙ gone .bytes, (most, sym (length-take-le _ _ most)))
 
 pub put-page-spec : {M : Type 1} → statement M
-put-page-spec =
-    tie.close (tie.spec (λ c κs. search needs) (λ c κs. search needs) (λ c. search needs) returns)
+put-page-spec = tie.close (tie.spec (λ c κs. search needs) (λ c κs. search needs) (λ c. search needs) returns)

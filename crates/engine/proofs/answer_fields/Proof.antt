@@ -1,8 +1,8 @@
 -- `answer_fields` meets its contract.
 use borrow.Author.Needs.{needs}
-use Rattle.scenario.specs.Refusal.{refusalOf}
-use Rattle.engine.specs.Evaluation.{answerOf}
-use Rattle.engine.proofs.Laws.{answers, fields-refused, fields-enclosed}
+use Rattle.scenario_theory.specs.Refusal.{refusalOf}
+use Rattle.engine_theory.specs.Evaluation.{answerOf}
+use Rattle.engine_theory.proofs.Laws.{answers, fields-refused, fields-enclosed}
 use Rattle.engine.proofs.answer_fields.Statement.{statement}
 use Rattle.engine.proofs.answer_fields.Tie as tie
 
@@ -23,4 +23,5 @@ enclosed c =
     (fields-enclosed s (k .refusal .result) (k .refusal .ensures) (i .if1 .left) (c .by-model .ensures))
 
 pub answer-fields-spec : {M : Type 1} → statement M
-answer-fields-spec = tie.close (tie.spec (λ c κs. search needs) refused (λ c κs. search needs) (λ c κs. search needs) enclosed)
+answer-fields-spec =
+    tie.close (tie.spec (λ c κs. search needs) refused (λ c κs. search needs) (λ c κs. search needs) enclosed)

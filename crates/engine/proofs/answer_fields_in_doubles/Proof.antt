@@ -1,9 +1,10 @@
 -- `answer_fields_in_doubles` meets its contract.
 use mathlib.Core.Path.{sym, _∙_}
 use borrow.Author.Needs.{needs}
-use Rattle.scenario.specs.Refusal.{refusalOf}
-use Rattle.engine.specs.Evaluation.{answerOf}
-use Rattle.engine.proofs.Laws.{sound, fields-refused, fields-enclosed, enclosed-in-doubles, refused-in-doubles, doubles-answers}
+use Rattle.scenario_theory.specs.Refusal.{refusalOf}
+use Rattle.engine_theory.specs.Evaluation.{answerOf}
+use Rattle.engine_theory.proofs.Laws.{sound, fields-refused, fields-enclosed, enclosed-in-doubles, refused-in-doubles}
+use Rattle.engine_theory.proofs.Laws.{doubles-answers}
 use Rattle.engine.proofs.answer_fields_in_doubles.Statement.{statement}
 use Rattle.engine.proofs.answer_fields_in_doubles.Tie as tie
 

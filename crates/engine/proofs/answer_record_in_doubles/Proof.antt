@@ -2,18 +2,21 @@
 use mathlib.Core.Path.{_∙_, ap, sym}
 use borrow.Author.Needs.{needs}
 use denote.Ref.{now}
-use Rattle.record.specs.Outcome.{scenarioIn, readRefusal}
-use Rattle.engine.specs.declared.Answer.the-variants as A
-use Rattle.engine.specs.Evaluation.{recordAnswerOf}
-use Rattle.engine.proofs.Laws.{sound, enclosed-in-doubles, refused-in-doubles, doubles-answers}
-use Rattle.engine.proofs.RecordLaws.{read-accepted, scenario-accepted, record-enclosed, record-refused}
+use Rattle.record_theory.specs.Outcome.{scenarioIn, readRefusal}
+use Rattle.engine_theory.specs.declared.Answer.the-variants as A
+use Rattle.engine_theory.specs.Evaluation.{recordAnswerOf}
+use Rattle.engine_theory.proofs.Laws.{sound, enclosed-in-doubles, refused-in-doubles, doubles-answers}
+use Rattle.engine_theory.proofs.RecordLaws.{read-accepted, scenario-accepted, record-enclosed, record-refused}
 use Rattle.engine.proofs.answer_record_in_doubles.Statement.{statement}
 use Rattle.engine.proofs.answer_record_in_doubles.Tie as tie
 
 accepted : tie.Need-by-model-requires
 accepted c κs =
     let k = c .before .before in
-    (scenario-accepted _ _ _ (sym (k .before .before .read .ensures .0) ∙ k .s .given .1), c .row .ensures)
+    record {
+      accepted = scenario-accepted _ _ _ (sym (k .before .before .read .ensures .0) ∙ k .s .given .1);
+      row = c .row .ensures;
+    }
 
 small : tie.Need-as-doubles-requires
 small c κs =
@@ -44,11 +47,5 @@ pub answer-record-in-doubles-spec : {M : Type 1} → statement M
 answer-record-in-doubles-spec =
     tie.close
     (tie.spec
-    (λ c κs. search needs)
-    (λ c. search needs)
-    (λ c κs. search needs)
-    accepted
-    small
-    (λ c. search needs)
-    enclosed
+    (λ c κs. search needs) (λ c. search needs) (λ c κs. search needs) accepted small (λ c. search needs) enclosed
     refused)

@@ -8,14 +8,14 @@ use lib.Ieee.{Float}
 use lib.Signed.{mag}
 use mir.Syntax.{w64}
 use mir.Val.{toZ, ofZ}
-use Rattle.signed.proofs.Laws.{back}
-use Rattle.engine.specs.Evaluation.{doubleOf, doublesOf}
+use Rattle.signed_theory.proofs.Laws.{back}
+use Rattle.engine_theory.specs.Evaluation.{doubleOf, doublesOf}
 use Rattle.engine.proofs.as_doubles.Statement.{statement}
 use Rattle.engine.proofs.as_doubles.Tie as tie
 
 -- the double of a field, which is read from its bits, is that of the field
 of-field : {x : Float} (z : ℤ) → mag z < 2 ^ 53 → x ≡ doubleOf (toZ w64 (ofZ w64 z)) → x ≡ doubleOf z
-of-field z h e = e ∙ ap doubleOf (back z (omega (arith, h)))
+of-field z h e = e ∙ ap doubleOf (back z (omega arith))
 
 returns : tie.Need-returns
 unfolding doublesOf
@@ -35,4 +35,5 @@ returns c =
 pub as-doubles-spec : {M : Type 1} → statement M
 as-doubles-spec =
     tie.close
-    (tie.spec (λ c κs. search needs) (λ c κs. search needs) (λ c κs. search needs) (λ c κs. search needs) returns)
+    (tie.spec
+    (λ c κs. search needs) (λ c κs. search needs) (λ c κs. search needs) (λ c κs. search needs) returns)

@@ -1,10 +1,10 @@
 -- `by_boore_atkinson` meets its contract.
 use mathlib.Core.Path.{refl}
-use Rattle.scenario.proofs.RefusalLaws.{within-boore-atkinson}
-use Rattle.scenario.proofs.RowLaws.{boore-atkinson-row}
-use Rattle.boore_atkinson.specs.Tables.{rowFor, totalFor}
-use Rattle.boore_atkinson.proofs.Accepted.{median-domain}
-use Rattle.engine.specs.Evaluation.{enclosureOf}
+use Rattle.scenario_theory.proofs.RefusalLaws.{within-boore-atkinson}
+use Rattle.scenario_theory.proofs.RowLaws.{boore-atkinson-row}
+use Rattle.boore_atkinson_theory.specs.Tables.{rowFor, totalFor}
+use Rattle.boore_atkinson_theory.proofs.Accepted.{median-domain}
+use Rattle.engine_theory.specs.Evaluation.{enclosureOf}
 use Rattle.engine.proofs.by_boore_atkinson.Statement.{statement}
 use Rattle.engine.proofs.by_boore_atkinson.Tie as tie
 
@@ -12,22 +12,22 @@ median-takes : tie.Need-median-requires
 median-takes c κs =
     let s = c .args .s in
     let p = c .pre in
-    let w = within-boore-atkinson s (p .0) (p .1) in
-    median-domain s (rw (p .2) (boore-atkinson-row (s .period) (w .period))) w
+    let w = within-boore-atkinson s (p .model) (p .accepted) in
+    median-domain s (rw (p .row) (boore-atkinson-row (s .period) (w .period))) w
 
 sigma-takes : tie.Need-sigma-requires
 sigma-takes c κs =
     let s = c .before .args .s in
     let p = c .before .pre in
-    let w = within-boore-atkinson s (p .0) (p .1) in
-    rw (p .2) (boore-atkinson-row (s .period) (w .period))
+    let w = within-boore-atkinson s (p .model) (p .accepted) in
+    rw (p .row) (boore-atkinson-row (s .period) (w .period))
 
 returns : tie.Need-returns
 unfolding enclosureOf rowFor totalFor
 returns c =
     let m = c .before in
     let p = m .before .pre in
-    rw (p .0, c .sigma .ensures, m .median .ensures, p .2) refl
+    rw (p .model, c .sigma .ensures, m .median .ensures, p .row) refl
 
 pub by-boore-atkinson-spec : {M : Type 1} → statement M
 by-boore-atkinson-spec = tie.close (tie.spec median-takes sigma-takes returns)

@@ -1,11 +1,11 @@
 -- `by_idriss` meets its contract.
 use mathlib.Core.Path.{refl}
 use borrow.Author.Needs.{needs}
-use Rattle.scenario.proofs.RefusalLaws.{within-idriss}
-use Rattle.scenario.proofs.RowLaws.{idriss-row}
-use Rattle.idriss.specs.Tables.{rowFor}
-use Rattle.idriss.proofs.Accepted.{median-domain, sigma-domain}
-use Rattle.engine.specs.Evaluation.{enclosureOf}
+use Rattle.scenario_theory.proofs.RefusalLaws.{within-idriss}
+use Rattle.scenario_theory.proofs.RowLaws.{idriss-row}
+use Rattle.idriss_theory.specs.Tables.{rowFor}
+use Rattle.idriss_theory.proofs.Accepted.{median-domain, sigma-domain}
+use Rattle.engine_theory.specs.Evaluation.{enclosureOf}
 use Rattle.engine.proofs.by_idriss.Statement.{statement}
 use Rattle.engine.proofs.by_idriss.Tie as tie
 
@@ -13,13 +13,13 @@ median-takes : tie.Need-median-requires
 median-takes c κs =
     let s = c .before .args .s in
     let p = c .before .pre in
-    let w = within-idriss s (p .0) (p .1) in
-    median-domain s (rw (p .2) (idriss-row (s .period) (w .period))) w
+    let w = within-idriss s (p .model) (p .accepted) in
+    median-domain s (rw (p .row) (idriss-row (s .period) (w .period))) w
 
 sigma-takes : tie.Need-sigma-requires
 sigma-takes c κs =
     let k = c .before .before in
-    sigma-domain (k .args .s) (within-idriss (k .args .s) (k .pre .0) (k .pre .1))
+    sigma-domain (k .args .s) (within-idriss (k .args .s) (k .pre .model) (k .pre .accepted))
 
 returns : tie.Need-returns
 unfolding enclosureOf rowFor
@@ -27,7 +27,7 @@ returns c =
     let m = c .before in
     let t = m .before in
     let p = t .before .pre in
-    rw (p .0, c .sigma .ensures, m .median .ensures, p .2, t .takes-table-3 .ensures) refl
+    rw (p .model, c .sigma .ensures, m .median .ensures, p .row, t .takes-table-3 .ensures) refl
 
 pub by-idriss-spec : {M : Type 1} → statement M
 by-idriss-spec = tie.close (tie.spec (λ c κs. search needs) median-takes sigma-takes returns)

@@ -3,22 +3,30 @@ use mathlib.Core.Path.{sym, _∙_}
 use mathlib.Core.Logic.{inl, inr}
 use native.Mathlib.Omega.{arith}
 use borrow.Author.Needs.{needs}
-use Rattle.scenario.proofs.RefusalLaws.{of-model}
-use Rattle.engine.proofs.RowLaws.{first-row, second-row}
+use Rattle.scenario_theory.proofs.RefusalLaws.{of-model}
+use Rattle.engine_theory.proofs.RowLaws.{first-row, second-row}
 use Rattle.engine.proofs.by_model.Statement.{statement}
 use Rattle.engine.proofs.by_model.Tie as tie
 
 first : tie.Need-by-idriss-requires
 first c κs =
     let k = c .before in
-    (c .if1 .taken, k .pre .0, k .pre .1 ∙ sym (first-row (k .args .model) (k .args .period) (c .if1 .taken)))
+    record {
+      model = c .if1 .taken;
+      accepted = k .pre .accepted;
+      row = k .pre .row ∙ sym (first-row _ (k .args .period) (c .if1 .taken));
+    }
 
 second : tie.Need-by-boore-atkinson-requires
 second c κs =
     let k = c .before in
-    elim (of-model _ (k .pre .0)) [
-      | inl p ↦ absurd (omega (arith, p .0, c .if1 .left))
-      | inr p ↦ (p .0, k .pre .0, k .pre .1 ∙ sym (second-row (k .args .model) (k .args .period) (c .if1 .left)))
+    elim (of-model _ (k .pre .accepted)) [
+      | inl p ↦ absurd (omega arith)
+      | inr p ↦ record {
+        model = p .0;
+        accepted = k .pre .accepted;
+        row = k .pre .row ∙ sym (second-row _ (k .args .period) (c .if1 .left));
+      }
     ]
 
 pub by-model-spec : {M : Type 1} → statement M

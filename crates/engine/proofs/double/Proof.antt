@@ -5,8 +5,8 @@ use lib.IntN.{ℤ}
 use lib.Ieee.{binary64, inFloat}
 use mir.Syntax.{w64}
 use mir.ValLaws.{toZ-ofZ}
-use Rattle.engine.specs.Evaluation.{doubleOf}
-use Rattle.engine.proofs.Exact.{in-range}
+use Rattle.engine_theory.specs.Evaluation.{doubleOf}
+use Rattle.engine_theory.proofs.Exact.{in-range}
 use Rattle.engine.proofs.double.Statement.{statement}
 use Rattle.engine.proofs.double.Tie as tie
 
@@ -16,8 +16,5 @@ in-doubles c =
     subst (λ (z : ℤ). T (inFloat binary64 z)) (sym (toZ-ofZ w64 (a .args .z) (a .fits .z)))
     (in-range (a .args .z) (a .pre))
 
-returns : tie.Need-returns
-returns c = ap doubleOf (toZ-ofZ w64 (c .before .args .z) (c .before .fits .z))
-
 pub double-spec : {M : Type 1} → statement M
-double-spec = tie.close (tie.spec in-doubles returns)
+double-spec = tie.close (tie.spec in-doubles (λ c. ap doubleOf (toZ-ofZ w64 (c .before .args .z) (c .before .fits .z))))

@@ -1,7 +1,7 @@
 -- `row` meets its contract.
 use mathlib.Core.Path.{_∙_}
 use borrow.Author.Needs.{needs}
-use Rattle.engine.proofs.RowLaws.{first-row, second-row}
+use Rattle.engine_theory.proofs.RowLaws.{first-row, second-row}
 use Rattle.engine.proofs.row.Statement.{statement}
 use Rattle.engine.proofs.row.Tie as tie
 

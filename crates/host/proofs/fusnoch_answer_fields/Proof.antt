@@ -1,9 +1,9 @@
 -- `fusnoch_answer_fields` meets its contract.
 use mathlib.Core.Path.{ap, _∙_}
 use borrow.Author.Needs.{needs}
-use Rattle.scenario.specs.Refusal.{refusalOf}
-use Rattle.engine.specs.Evaluation.{answerOf}
-use Rattle.engine.proofs.Laws.{small}
+use Rattle.scenario_theory.specs.Refusal.{refusalOf}
+use Rattle.engine_theory.specs.Evaluation.{answerOf}
+use Rattle.engine_theory.proofs.Laws.{small}
 use Rattle.host.specs.Told.{scenarioFrom, told}
 use Rattle.host.proofs.Laws.{answers}
 use Rattle.host.proofs.fusnoch_answer_fields.Statement.{statement}

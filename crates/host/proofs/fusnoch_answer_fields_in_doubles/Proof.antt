@@ -1,9 +1,9 @@
 -- `fusnoch_answer_fields_in_doubles` meets its contract.
 use mathlib.Core.Path.{ap, _∙_}
 use borrow.Author.Needs.{needs}
-use Rattle.scenario.specs.declared.Scenario.{Scenario}
-use Rattle.scenario.specs.Refusal.{refusalOf}
-use Rattle.engine.specs.Evaluation.{answerOf, inDoubles}
+use Rattle.scenario_theory.specs.declared.Scenario.{Scenario}
+use Rattle.scenario_theory.specs.Refusal.{refusalOf}
+use Rattle.engine_theory.specs.Evaluation.{answerOf, inDoubles}
 use Rattle.host.specs.Told.{scenarioFrom, toldDoubles}
 use Rattle.host.proofs.Laws.{doubles-answers}
 use Rattle.host.proofs.fusnoch_answer_fields_in_doubles.Statement.{statement}

@@ -2,10 +2,10 @@
 use mathlib.Core.Path.{ap, _∙_}
 use borrow.Author.Needs.{needs}
 use denote.Ref.{now}
-use Rattle.record.specs.Outcome.{scenarioIn, readRefusal}
-use Rattle.engine.specs.Evaluation.{recordAnswerOf}
-use Rattle.engine.proofs.Laws.{small}
-use Rattle.engine.proofs.RecordLaws.{read-accepted}
+use Rattle.record_theory.specs.Outcome.{scenarioIn, readRefusal}
+use Rattle.engine_theory.specs.Evaluation.{recordAnswerOf}
+use Rattle.engine_theory.proofs.Laws.{small}
+use Rattle.engine_theory.proofs.RecordLaws.{read-accepted}
 use Rattle.host.specs.Told.{told}
 use Rattle.host.proofs.Laws.{answers}
 use Rattle.host.proofs.fusnoch_answer_record.Statement.{statement}

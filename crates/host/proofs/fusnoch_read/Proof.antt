@@ -19,5 +19,4 @@ refused c =
     (ap toldReading (sym (c .before .number .given .1) ∙ k .read .ensures .0))
 
 pub fusnoch-read-spec : {M : Type 1} → statement M
-fusnoch-read-spec =
-    tie.close (tie.spec (λ c κs. search needs) (λ c. search needs) (λ c. search needs) read refused)
+fusnoch-read-spec = tie.close (tie.spec (λ c κs. search needs) (λ c. search needs) (λ c. search needs) read refused)

@@ -1,8 +1,8 @@
 -- `fusnoch_write` meets its contract.
 use mathlib.Core.Path.{_≡_, ap, sym, _∙_}
 use borrow.Author.Needs.{needs}
-use Rattle.record.specs.declared.Writing.the-variants as W
-use Rattle.record.specs.Outcome.{writeOf}
+use Rattle.record_theory.specs.declared.Writing.the-variants as W
+use Rattle.record_theory.specs.Outcome.{writeOf}
 use Rattle.host.specs.Told.{scenarioFrom, toldWriting}
 use Rattle.host.proofs.Laws.{writes}
 use Rattle.host.proofs.fusnoch_write.Statement.{statement}
@@ -32,11 +32,5 @@ pub fusnoch-write-spec : {M : Type 1} → statement M
 fusnoch-write-spec =
     tie.close
     (tie.spec
-    (λ c κs. search needs)
-    (λ c κs. search needs)
-    (λ c. search needs)
-    (λ c. search needs)
-    (λ c. search needs)
-    written
-    (λ c. search needs)
-    refused)
+    (λ c κs. search needs) (λ c κs. search needs) (λ c. search needs) (λ c. search needs) (λ c. search needs) written
+    (λ c. search needs) refused)

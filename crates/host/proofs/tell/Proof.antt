@@ -7,17 +7,17 @@ use lib.IntN.{ℤ}
 use lib.Signed.{mag}
 use mir.Syntax.{w64}
 use mir.Val.{toZ, ofZ}
-use Rattle.signed.proofs.Laws.{back}
-use Rattle.engine.specs.declared.Enclosure.{Enclosure}
-use Rattle.engine.specs.declared.Answer.the-variants as A
-use Rattle.engine.specs.Evaluation.{SmallAnswer}
+use Rattle.signed_theory.proofs.Laws.{back}
+use Rattle.engine_theory.specs.declared.Enclosure.{Enclosure}
+use Rattle.engine_theory.specs.declared.Answer.the-variants as A
+use Rattle.engine_theory.specs.Evaluation.{SmallAnswer}
 use Rattle.host.specs.Told.{told}
 use Rattle.host.proofs.tell.Statement.{statement}
 use Rattle.host.proofs.tell.Tie as tie
 
 -- an end, read back from its bits
 end : (z : ℤ) → mag z < 2 ^ 53 → toZ w64 (ofZ w64 z) ≡ z
-end z h = back z (omega (arith, h))
+end z h = back z (omega arith)
 
 is-told : (e : Enclosure) {a b c d : ℤ} → a ≡ e .median .low → b ≡ e .median .high → c ≡ e .sigma .low →
     d ≡ e .sigma .high →

@@ -2,21 +2,12 @@
 use mathlib.Core.Path.{_∙_, ap}
 use native.Mathlib.Omega.{arith}
 use borrow.Author.Needs.{needs}
-use Rattle.outward.specs.Evaluation.{multipleOf}
-use Rattle.outward.proofs.Laws.{ln-sized, multiple-takes}
-use Rattle.idriss.specs.Evaluation.{betaOf, distanceTermOf}
-use Rattle.idriss.proofs.Bounds.{beta-bounds, far-domain, distance-sized}
+use Rattle.outward_theory.specs.Evaluation.{multipleOf}
+use Rattle.outward_theory.proofs.Laws.{ln-sized, multiple-takes}
+use Rattle.idriss_theory.specs.Evaluation.{betaOf, distanceTermOf}
+use Rattle.idriss_theory.proofs.Bounds.{beta-bounds, far-domain, distance-sized}
 use Rattle.idriss.proofs.distance_term.Statement.{statement}
 use Rattle.idriss.proofs.distance_term.Tie as tie
-
-cast-factor : tie.Need-cast-factor
-cast-factor c = search needs
-
-mul-factor : tie.Need-mul-factor
-mul-factor c = search needs
-
-cast-factor-2 : tie.Need-cast-factor-2
-cast-factor-2 c = search needs
 
 mul-factor-2 : tie.Need-mul-factor-2
 mul-factor-2 c =
@@ -25,15 +16,6 @@ mul-factor-2 c =
 mul-factor-3 : tie.Need-mul-factor-3
 mul-factor-3 c =
     let p = c .before .before .pre in record { fits = omega (arith, beta-bounds (p .0) (p .1) (p .2) .order) }
-
-sub-factor : tie.Need-sub-factor
-sub-factor c = let p = c .before .before .pre in beta-bounds (p .0) (p .1) (p .2) .order
-
-add-ln-hundredths : tie.Need-add-ln-hundredths
-add-ln-hundredths c = search needs
-
-ln-hundredths-requires : tie.Need-ln-hundredths-requires
-ln-hundredths-requires c κs = search needs
 
 multiple-requires : tie.Need-multiple-requires
 unfolding betaOf
@@ -53,13 +35,6 @@ pub distance-term-spec : {M : Type 1} → statement M
 distance-term-spec =
     tie.close
     (tie.spec
-    cast-factor
-    mul-factor
-    cast-factor-2
-    mul-factor-2
-    mul-factor-3
-    sub-factor
-    add-ln-hundredths
-    ln-hundredths-requires
-    multiple-requires
-    returns)
+    (λ c. search needs) (λ c. search needs) (λ c. search needs) mul-factor-2 mul-factor-3
+    (λ c. let p = c .before .before .pre in beta-bounds (p .0) (p .1) (p .2) .order)
+    (λ c. search needs) (λ c κs. search needs) multiple-requires returns)

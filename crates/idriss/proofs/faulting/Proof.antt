@@ -2,7 +2,7 @@
 use mathlib.Core.Path.{refl}
 use native.Mathlib.Omega.{arith}
 use borrow.Author.Tests.{ne-eqb}
-use Rattle.idriss.specs.Median.{F}
+use Rattle.idriss_theory.specs.Median.{F}
 use Rattle.idriss.proofs.faulting.Statement.{statement}
 use Rattle.idriss.proofs.faulting.Tie as tie
 

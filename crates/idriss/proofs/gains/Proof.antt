@@ -3,8 +3,8 @@ use mathlib.Core.Path.{refl}
 use native.Mathlib.Nat.{mul-le-mul}
 use native.Mathlib.Omega.{arith}
 use borrow.Author.Needs.{needs}
-use Rattle.idriss.specs.Evaluation.{gainsOf}
-use Rattle.idriss.proofs.Bounds.{alpha-domain}
+use Rattle.idriss_theory.specs.Evaluation.{gainsOf}
+use Rattle.idriss_theory.proofs.Bounds.{alpha-domain}
 use Rattle.idriss.proofs.gains.Statement.{statement}
 use Rattle.idriss.proofs.gains.Tie as tie
 
@@ -12,12 +12,6 @@ alpha-sum-requires : tie.Need-alpha-sum-requires
 alpha-sum-requires c κs =
     let l = c .pre .0 in
     alpha-domain (l .alpha1-gain) (l .alpha2-gain) (l .alpha3-gain) (c .pre .2)
-
-cast-result : tie.Need-cast-result
-cast-result c = search needs
-
-faulting-requires : tie.Need-faulting-requires
-faulting-requires c κs = search needs
 
 mul-result : tie.Need-mul-result
 mul-result c =
@@ -35,16 +29,10 @@ returns : tie.Need-returns
 unfolding gainsOf
 returns c =
     let most = mul-le-mul (c .before .before .before .pre .0 .phi) (c .faulting .ensures .1) in
-    (rw (c .before .before .alpha-sum .ensures .0, c .faulting .ensures .0) refl, omega (arith, most))
+    (rw (c .before .before .alpha-sum .ensures .0, c .faulting .ensures .0) refl, omega arith)
 
 pub gains-spec : {M : Type 1} → statement M
 gains-spec =
     tie.close
     (tie.spec
-    alpha-sum-requires
-    cast-result
-    faulting-requires
-    mul-result
-    mul-result-2
-    add-result
-    returns)
+    alpha-sum-requires (λ c. search needs) (λ c κs. search needs) mul-result mul-result-2 add-result returns)

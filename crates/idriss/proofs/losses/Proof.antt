@@ -3,8 +3,8 @@ use mathlib.Core.Path.{refl}
 use native.Mathlib.Nat.{mul-le-mul}
 use native.Mathlib.Omega.{arith}
 use borrow.Author.Needs.{needs}
-use Rattle.idriss.specs.Evaluation.{lossesOf}
-use Rattle.idriss.proofs.Bounds.{alpha-domain}
+use Rattle.idriss_theory.specs.Evaluation.{lossesOf}
+use Rattle.idriss_theory.proofs.Bounds.{alpha-domain}
 use Rattle.idriss.proofs.losses.Statement.{statement}
 use Rattle.idriss.proofs.losses.Tie as tie
 
@@ -12,9 +12,6 @@ alpha-sum-requires : tie.Need-alpha-sum-requires
 alpha-sum-requires c κs =
     let l = c .pre .0 in
     alpha-domain (l .alpha1-loss) (l .alpha2-loss) (l .alpha3-loss) (c .pre .2)
-
-cast-result : tie.Need-cast-result
-cast-result c = search needs
 
 mul-result : tie.Need-mul-result
 mul-result c = let p = c .before .before .pre in record { fits = omega (arith, mul-le-mul (p .0 .gamma) (p .3)) }
@@ -32,4 +29,4 @@ returns c =
     (rw (c .before .alpha-sum .ensures .0) refl, omega (arith, mul-le-mul (p .0 .gamma) (p .3)))
 
 pub losses-spec : {M : Type 1} → statement M
-losses-spec = tie.close (tie.spec alpha-sum-requires cast-result mul-result mul-result-2 add-result returns)
+losses-spec = tie.close (tie.spec alpha-sum-requires (λ c. search needs) mul-result mul-result-2 add-result returns)

@@ -3,31 +3,19 @@ use mathlib.Core.Path.{_∙_, ap}
 use Prim.Native.Nat.{_*_}
 use native.Mathlib.Omega.{arith}
 use borrow.Author.Needs.{needs}
-use Rattle.logarithm.specs.Evaluation.{lnOf}
-use Rattle.outward.specs.Evaluation.{multipleOf}
-use Rattle.outward.proofs.Laws.{ln-sized, multiple-takes}
-use Rattle.idriss.specs.Evaluation.{siteTermOf}
-use Rattle.idriss.proofs.Bounds.{site-domain, site-sized}
+use Rattle.logarithm_theory.specs.Evaluation.{lnOf}
+use Rattle.outward_theory.specs.Evaluation.{multipleOf}
+use Rattle.outward_theory.proofs.Laws.{ln-sized, multiple-takes}
+use Rattle.idriss_theory.specs.Evaluation.{siteTermOf}
+use Rattle.idriss_theory.proofs.Bounds.{site-domain, site-sized}
 use Rattle.idriss.proofs.site_term.Statement.{statement}
 use Rattle.idriss.proofs.site_term.Tie as tie
-
-lesser-requires : tie.Need-lesser-requires
-lesser-requires c κs = search needs
-
-cast-multiple : tie.Need-cast-multiple
-cast-multiple c = search needs
-
-mul-multiple : tie.Need-mul-multiple
-mul-multiple c = search needs
-
-ln-requires : tie.Need-ln-requires
-ln-requires c κs = search needs
 
 multiple-requires : tie.Need-multiple-requires
 multiple-requires c κs =
     let p = c .before .before .before .pre in
     rw (c .ln .ensures, c .before .before .lesser .ensures)
-    (multiple-takes _ (ln-sized (site-domain (p .1))) (omega (arith, p .0 .xi)))
+    (multiple-takes _ (ln-sized (site-domain (p .1))) (omega arith))
 
 returns : tie.Need-returns
 unfolding siteTermOf
@@ -39,4 +27,7 @@ returns c =
     (f, rw f (site-sized (p .0) (p .1)))
 
 pub site-term-spec : {M : Type 1} → statement M
-site-term-spec = tie.close (tie.spec lesser-requires cast-multiple mul-multiple ln-requires multiple-requires returns)
+site-term-spec =
+    tie.close
+    (tie.spec
+    (λ c κs. search needs) (λ c. search needs) (λ c. search needs) (λ c κs. search needs) multiple-requires returns)

@@ -1,6 +1,6 @@
 -- `takes_table_3` meets its contract.
 use mathlib.Core.Path.{refl}
-use Rattle.idriss.specs.Tables.{takesTable3}
+use Rattle.idriss_theory.specs.Tables.{takesTable3}
 use Rattle.idriss.proofs.takes_table_3.Statement.{statement}
 use Rattle.idriss.proofs.takes_table_3.Tie as tie
 

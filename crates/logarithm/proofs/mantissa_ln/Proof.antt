@@ -2,9 +2,10 @@
 use Prim.Native.Nat.{_*_}
 use native.Mathlib.Omega.{arith}
 use borrow.Author.Needs.{needs}
-use Rattle.logarithm.specs.Evaluation.{mantissaLnOf}
-use Rattle.logarithm.proofs.Factors.{Coarse, Fine, coarse-at, fine-at, near}
-use Rattle.logarithm.proofs.Remainder.{near-small}
+use Rattle.logarithm_tables_theory.proofs.Factors.{Coarse, Fine, coarse-at, fine-at}
+use Rattle.logarithm_theory.specs.Evaluation.{mantissaLnOf}
+use Rattle.logarithm_theory.proofs.Sum.{near}
+use Rattle.logarithm_theory.proofs.Remainder.{near-small}
 use Rattle.logarithm.proofs.mantissa_ln.Statement.{statement}
 use Rattle.logarithm.proofs.mantissa_ln.Tie as tie
 
@@ -14,27 +15,6 @@ coarse-known c = rw (c .coarse .ensures) (coarse-at _ (c .before .pre .least) (c
 fine-known : (c : tie.After-fine) →
     Fine (c .before .before .before .args .y * c .before .before .coarse .result .by) (c .fine .result)
 fine-known c = let k = coarse-known (c .before .before) in rw (c .fine .ensures) (fine-at _ (k .least) (k .most))
-
-sub-coarse : tie.Need-sub-coarse
-sub-coarse c = search needs
-
-coarse-requires : tie.Need-coarse-requires
-coarse-requires c κs = search needs
-
-mul-nearer : tie.Need-mul-nearer
-mul-nearer c = omega (arith, coarse-known (c .before) .most)
-
-sub-fine : tie.Need-sub-fine
-sub-fine c = omega (arith, coarse-known (c .before) .least)
-
-fine-requires : tie.Need-fine-requires
-fine-requires c κs = search needs
-
-mul-near-one : tie.Need-mul-near-one
-mul-near-one c = omega (arith, fine-known (c .before) .most)
-
-near-one-requires : tie.Need-near-one-requires
-near-one-requires c κs = near (fine-known (c .before))
 
 add-result : tie.Need-add-result
 add-result c =
@@ -46,7 +26,7 @@ add-result-2 c =
     let n = c .before .before in
     let f = n .before .before in
     let w = fine-known f in
-    rw (n .near-one .ensures) (omega (arith, coarse-known (f .before .before) .small, w .small, near-small (near w)))
+    rw (n .near-one .ensures) (omega (arith, coarse-known (f .before .before) .small, near-small (near w)))
 
 returns : tie.Need-returns
 unfolding mantissaLnOf
@@ -59,13 +39,10 @@ pub mantissa-ln-spec : {M : Type 1} → statement M
 mantissa-ln-spec =
     tie.close
     (tie.spec
-    sub-coarse
-    coarse-requires
-    mul-nearer
-    sub-fine
-    fine-requires
-    mul-near-one
-    near-one-requires
-    add-result
-    add-result-2
-    returns)
+    (λ c. search needs) (λ c κs. search needs)
+    (λ c. omega (arith, coarse-known (c .before) .most))
+    (λ c. omega (arith, coarse-known (c .before) .least))
+    (λ c κs. search needs)
+    (λ c. omega (arith, fine-known (c .before) .most))
+    (λ c κs. near (fine-known (c .before)))
+    add-result add-result-2 returns)

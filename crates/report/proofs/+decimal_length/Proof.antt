@@ -7,8 +7,8 @@ use borrow.Author.Needs.{needs}
 use borrow.Fn.Kinds.{In}
 use borrow.Fn.PlainCycle.{Measures, is, falls, and}
 use lib.ListN.{length, length-append}
-use Rattle.report.specs.Text.{decimal}
-use Rattle.report.proofs.TextLaws.{decimal-most, one-digit, more-digits}
+use Rattle.report_theory.specs.Text.{decimal}
+use Rattle.report_theory.proofs.TextLaws.{decimal-most, one-digit, more-digits}
 use Rattle.report.proofs.decimal_length.Reads as own
 use Rattle.report.proofs.decimal_length.Kinds as kinds
 use Rattle.report.proofs.+decimal_length.Lts-decimal_length as lts
@@ -25,12 +25,12 @@ abbrev below : ℕ → In 0 kinds.ps
 below t = and 0 kinds.ps (falls 0 kinds.ps _<_ μ t) own.Pre
 
 one : (t : ℕ) → lts.Need-returns (below t, own.Post) (at t) own.Post
-one t c = (rw (one-digit (c .before .args .n) (c .if1 .taken)) refl, search needs)
+one t c = record { is = rw (one-digit (c .before .args .n) (c .if1 .taken)) refl; few = search needs }
 
 smaller : (t : ℕ) → lts.Need-decimal-length-requires (below t, own.Post) (at t) own.Post
 smaller t c κs =
     let n = c .before .args .n in
-    let h : n / 10 < n = omega (arith, c .if1 .left) in
+    let h : n / 10 < n = omega arith in
     (subst (λ (j : ℕ). n / 10 < j) (c .before .pre .0) h, tt)
 
 more : (t : ℕ) → lts.Need-returns-2 (below t, own.Post) (at t) own.Post
@@ -38,8 +38,8 @@ more t c =
     let n = c .before .before .args .n in
     let e = more-digits n (c .before .if1 .left) (c .before .before .fits .n .fits) in
     let l : c .decimal-length .result + 1 ≡ length (decimal n) =
-    rw e (omega (arith, c .decimal-length .ensures .0, length-append (decimal (n / 10)) ((48 + n % 10) ∷ []))) in
-    (l, omega (arith, l, decimal-most n))
+    rw e (omega (arith, length-append (decimal (n / 10)) ((48 + n % 10) ∷ []))) in
+    record { is = l; few = omega (arith, decimal-most n) }
 
 pub +decimal-length-spec : {M : Type 1} → statement M
 +decimal-length-spec =

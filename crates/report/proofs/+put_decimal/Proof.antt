@@ -7,9 +7,10 @@ use borrow.Author.Needs.{needs}
 use borrow.Fn.Kinds.{In}
 use borrow.Fn.PlainCycle.{Measures, is, falls, and}
 use lib.ListN.{length, length-append}
-use Rattle.report.specs.Text.{decimal}
-use Rattle.report.proofs.TextLaws.{one-digit, more-digits}
-use Rattle.report.proofs.Puts.{put-one, put-more, put-length}
+use Rattle.stores_theory.proofs.StoreLaws.{put-length}
+use Rattle.report_theory.specs.Text.{decimal}
+use Rattle.report_theory.proofs.TextLaws.{one-digit, more-digits}
+use Rattle.report_theory.proofs.Puts.{put-one, put-more}
 use Rattle.report.proofs.put_decimal.Reads as own
 use Rattle.report.proofs.put_decimal.Kinds as kinds
 use Rattle.report.proofs.+put_decimal.Lts-put_decimal as lts
@@ -28,12 +29,12 @@ below t = and 1 kinds.ps (falls 1 kinds.ps _<_ μ t) own.Pre
 fits : (t : ℕ) → lts.Need-slice-write-out (below t, own.Post) (at t) own.Post
 fits t c =
     let k = c .before .before in
-    omega (arith, k .pre .1, ap length (one-digit (k .args .n) (c .if1 .taken)))
+    omega (arith, ap length (one-digit (k .args .n) (c .if1 .taken)))
 
 adds : (t : ℕ) → lts.Need-add-result (below t, own.Post) (at t) own.Post
 adds t c =
     let k = c .before .before in
-    record { fits = omega (arith, k .pre .1, ap length (one-digit (k .args .n) (c .if1 .taken)), k .good .0 .0) }
+    record { fits = omega (arith, ap length (one-digit (k .args .n) (c .if1 .taken))) }
 
 same : (t : ℕ) → lts.Need-same-length (below t, own.Post) (at t) own.Post
 same t c = search needs
@@ -47,10 +48,10 @@ smaller : (t : ℕ) → lts.Need-put-decimal-requires (below t, own.Post) (at t)
 smaller t c κs =
     let k = c .before .before .before in
     let n = k .args .n in
-    let h : n / 10 < n = omega (arith, c .before .if1 .left) in
+    let h : n / 10 < n = omega arith in
     let e = more-digits n (c .before .if1 .left) (k .fits .n .fits) in (
       subst (λ (j : ℕ). n / 10 < j) (k .pre .0) h,
-      omega (arith, k .pre .1, ap length e, length-append (decimal (n / 10)) ((48 + n % 10) ∷ [])),
+      omega (arith, ap length e, length-append (decimal (n / 10)) ((48 + n % 10) ∷ [])),
     )
 
 -- the last digit's place is within what is lent
@@ -64,8 +65,8 @@ place t c =
     let e = more-digits n (p .before .before .if1 .left) (k .fits .n .fits) in
     let put = p .put-decimal .ensures in
     let sum = length-append (decimal (n / 10)) ((48 + n % 10) ∷ []) in (
-      omega (arith, k .pre .1, ap length e, sum, put .place, put-length put),
-      omega (arith, k .pre .1, ap length e, sum, put .place, k .good .0 .0),
+      omega (arith, ap length e, put-length put),
+      omega (arith, ap length e),
     )
 
 fits-2 : (t : ℕ) → lts.Need-slice-write-out-2 (below t, own.Post) (at t) own.Post

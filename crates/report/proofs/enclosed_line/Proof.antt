@@ -1,18 +1,16 @@
 -- `enclosed_line` meets its contract.
-use mathlib.Core.Path.{_≡_}
 use mathlib.Core.List.{List, [], _∷_, _++_}
 use Prim.Native.Nat.{ℕ, _+_, _≤_}
 use native.Mathlib.Omega.{arith}
 use borrow.Author.Needs.{needs}
 use lib.ListN.{length, length-append}
-use Rattle.engine.specs.declared.Enclosure.{Enclosure}
-use Rattle.engine.specs.declared.Answer.the-variants as A
-use Rattle.report.specs.declared.Words.{Words}
-use Rattle.report.specs.Text.{decimal}
-use Rattle.report.specs.Lines.{lineOf}
-use Rattle.report.specs.Steps.{wordsFor, bothBytes, headBytes}
-use Rattle.report.proofs.Puts.{put-then, first-fits, next-fits}
-use Rattle.report.proofs.LineLaws.{enclosed-parts, too-short, has-room, written}
+use Rattle.stores_theory.proofs.StoreLaws.{put-then, first-fits, next-fits}
+use Rattle.engine_theory.specs.declared.Answer.the-variants as A
+use Rattle.report_theory.specs.declared.Words.{Words}
+use Rattle.report_theory.specs.Text.{decimal}
+use Rattle.report_theory.specs.Lines.{lineOf}
+use Rattle.report_theory.specs.Steps.{bothBytes, headBytes}
+use Rattle.report_theory.proofs.LineLaws.{ByParts, enclosed-parts, too-short, written}
 use Rattle.report.proofs.enclosed_line.Statement.{statement}
 use Rattle.report.proofs.enclosed_line.Tie as tie
 
@@ -20,52 +18,28 @@ use Rattle.report.proofs.enclosed_line.Tie as tie
 abbrev parts : ℕ → Words → Words → List ℕ
 parts position m s = (headBytes position 69 ++ bothBytes m) ++ bothBytes s
 
-split-parts : (position : ℕ) (e : Enclosure) {m s : Words} → m ≡ wordsFor (e .median) → s ≡ wordsFor (e .sigma) →
-    lineOf position (A.Enclosed e) ≡ parts position m s
-split-parts position e a b = rw (a, b) (enclosed-parts position e)
-
--- the length is that of the parts
-size : (position : ℕ) (m s : Words) {d v w : ℕ} → d ≡ length (decimal position) → v ≡ length (bothBytes m) →
-    w ≡ length (bothBytes s) → d + 2 + v + w ≡ length (parts position m s)
-size position m s a b c =
-    omega (
-      arith,
-      a,
-      b,
-      c,
-      length-append (decimal position) (32 ∷ 69 ∷ []),
-      length-append (headBytes position 69) (bothBytes m),
-      length-append (headBytes position 69 ++ bothBytes m) (bothBytes s),
-    )
-
--- what has been counted is their length, and they are the line
-counted : (w : tie.After-words-length2) →
+-- the line, of as many bytes as are counted
+known : (w : tie.After-words-length2) →
     let d = w .before .before in
-    let m = d .before .before in
-    d .decimal-length .result + 2 + w .before .words-length .result + w .words-length2 .result
-    ≡ length (parts (m .before .before .args .position) (m .split-ends .result) (d .before .split-ends2 .result))
-counted w =
-    let d = w .before .before in
-    let m = d .before .before in
-    size (m .before .before .args .position) (m .split-ends .result) (d .before .split-ends2 .result)
-    (d .decimal-length .ensures .0) (w .before .words-length .ensures .0) (w .words-length2 .ensures .0)
-
-is-line : (w : tie.After-words-length2) →
+    let s = d .before in
+    let m = s .before in
+    let a = m .before .before .args in
+    ByParts (lineOf (a .position) (A.Enclosed (a .e)))
+    (parts (a .position) (m .split-ends .result) (s .split-ends2 .result))
+    (d .decimal-length .result + 2 + w .before .words-length .result + w .words-length2 .result)
+known w =
     let s = w .before .before .before in
-    let a = s .before .before .before .args in
-    lineOf (a .position) (A.Enclosed (a .e))
-    ≡ parts (a .position) (s .before .split-ends .result) (s .split-ends2 .result)
-is-line w =
-    let s = w .before .before .before in
-    let a = s .before .before .before .args in
-    split-parts (a .position) (a .e) (s .before .split-ends .ensures) (s .split-ends2 .ensures)
-
-short : tie.Need-returns
-short c =
-    let w = c .before in
-    let a = w .before .before .before .before .before .before .args in
-    too-short (lineOf (a .position) (A.Enclosed (a .e))) _ (a .out .now) (is-line w) (counted w)
-    (omega (arith, c .if1 .taken))
+    let m = s .before in
+    let a = m .before .before .args in
+    let head = headBytes (a .position) 69 in
+    let median = bothBytes (m .split-ends .result) in
+    let first = length-append (decimal (a .position)) (32 ∷ 69 ∷ []) in
+    let second = length-append head median in
+    let third = length-append (head ++ median) (bothBytes (s .split-ends2 .result)) in
+    record {
+      is = rw (m .split-ends .ensures, s .split-ends2 .ensures) (enclosed-parts (a .position) (a .e));
+      size = omega (arith, first, second, third);
+    }
 
 -- where it is not too short, there is room for all parts
 room : (c : tie.Else1) →
@@ -73,11 +47,7 @@ room : (c : tie.Else1) →
     let m = s .before in
     let a = m .before .before .args in
     0 + length (parts (a .position) (m .split-ends .result) (s .split-ends2 .result)) ≤ length (a .out .now)
-room c =
-    let w = c .before in
-    let a = w .before .before .before .before .before .before .args in
-    has-room (lineOf (a .position) (A.Enclosed (a .e))) _ (a .out .now) (is-line w) (counted w)
-    (omega (arith, c .if1 .left))
+room c = let l = known (c .before) in omega arith
 
 -- and so for the first two
 front : (c : tie.Else1) →
@@ -95,7 +65,7 @@ head-fits c κs =
     let a = m .before .before .args in
     let h =
     first-fits 0 (headBytes (a .position) 69) (bothBytes (m .split-ends .result)) (a .out .now) (front (c .before)) in
-    omega (arith, h)
+    omega arith
 
 median-fits : tie.Need-put-words-requires
 median-fits c κs =
@@ -122,27 +92,14 @@ returns c =
     let q = r .before .before .before .before in
     let p = q .before .before .before .before in
     let e = p .before .before in
-    let w = e .before in
-    let a = w .before .before .before .before .before .before .args in
-    written (lineOf (a .position) (A.Enclosed (a .e))) _ (a .out .now) (is-line w) (counted w)
-    (omega (arith, e .if1 .left))
+    written _ (known (e .before)) (omega arith)
     (put-then (put-then (p .put-head .ensures) (q .put-words .ensures)) (r .put-words2 .ensures))
 
 pub enclosed-line-spec : {M : Type 1} → statement M
 enclosed-line-spec =
     tie.close
     (tie.spec
-    (λ c κs. search needs)
-    (λ c κs. search needs)
-    (λ c κs. search needs)
-    (λ c. search needs)
-    (λ c κs. search needs)
-    (λ c. search needs)
-    (λ c κs. search needs)
-    (λ c. search needs)
-    short
-    head-fits
-    median-fits
-    sigma-fits
-    (λ c. search needs)
-    returns)
+    (λ c κs. search needs) (λ c κs. search needs) (λ c κs. search needs) (λ c. search needs) (λ c κs. search needs)
+    (λ c. search needs) (λ c κs. search needs) (λ c. search needs)
+    (λ c. too-short _ (known (c .before)) (omega arith))
+    head-fits median-fits sigma-fits (λ c. search needs) returns)

@@ -5,8 +5,8 @@ use native.Mathlib.Nat.{zero-add}
 use native.Mathlib.Omega.{arith}
 use borrow.Author.Needs.{needs}
 use lib.ListN.{length, length-set}
-use Rattle.report.specs.Text.{decimal}
-use Rattle.report.proofs.Puts.{put-then, put-two, put-length, first-fits, next-fits}
+use Rattle.stores_theory.proofs.StoreLaws.{put-then, put-two, put-length, first-fits, next-fits}
+use Rattle.report_theory.specs.Text.{decimal}
 use Rattle.report.proofs.put_head.Statement.{statement}
 use Rattle.report.proofs.put_head.Tie as tie
 
@@ -26,7 +26,7 @@ room c =
     let put = p .put-decimal .ensures in
     let h =
     next-fits (decimal (k .args .position)) (32 ∷ k .args .letter ∷ []) (rw (zero-add (length _)) (k .pre)) put in
-    (omega (arith, h), omega (arith, h, put-length put, k .good .0 .0))
+    (omega arith, omega (arith, put-length put))
 
 letter-fits : tie.Need-slice-write-out-2
 letter-fits c =
@@ -48,5 +48,4 @@ put-head-spec =
     (λ c. record { fits = omega (arith, room c) })
     letter-fits
     (λ c. record { fits = omega (arith, room c) })
-    (λ c. search needs)
-    returns)
+    (λ c. search needs) returns)

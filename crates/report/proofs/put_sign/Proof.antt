@@ -4,8 +4,8 @@ use Prim.Native.Nat.{_≤_}
 use native.Mathlib.Omega.{arith}
 use borrow.Author.Needs.{needs}
 use lib.ListN.{length, length-set}
-use Rattle.report.specs.Steps.{signBytes}
-use Rattle.report.proofs.Puts.{put-byte, put-two}
+use Rattle.stores_theory.proofs.StoreLaws.{put-byte, put-two}
+use Rattle.report_theory.specs.Steps.{signBytes}
 use Rattle.report.proofs.put_sign.Statement.{statement}
 use Rattle.report.proofs.put_sign.Tie as tie
 
@@ -14,13 +14,13 @@ at-least true = omega arith
 at-least false = omega arith
 
 space-fits : tie.Need-slice-write-out
-space-fits c = omega (arith, c .pre, at-least (c .args .minus))
+space-fits c = omega (arith, at-least (c .args .minus))
 
 minus-fits : tie.Need-slice-write-out-2
 minus-fits c =
     let k = c .before in
     let h = rw (c .if1 .taken) at (k .pre) in
-    omega (arith, h, length-set (k .args .out .now) (k .args .at) 32)
+    omega (arith, length-set (k .args .out .now) (k .args .at) 32)
 
 minus : tie.Need-returns
 minus c =
@@ -35,5 +35,6 @@ plain c =
 pub put-sign-spec : {M : Type 1} → statement M
 put-sign-spec =
     tie.close
-    (tie.spec space-fits (λ c. search needs) minus-fits (λ c. search needs) (λ c. search needs) minus
-    (λ c. search needs) (λ c. search needs) plain)
+    (tie.spec
+    space-fits (λ c. search needs) minus-fits (λ c. search needs) (λ c. search needs) minus (λ c. search needs)
+    (λ c. search needs) plain)

@@ -1,8 +1,8 @@
 -- `put_word` meets its contract.
 use borrow.Author.Needs.{needs}
-use Rattle.report.specs.Text.{decimal}
-use Rattle.report.specs.Steps.{signBytes}
-use Rattle.report.proofs.Puts.{put-then, first-fits, next-fits}
+use Rattle.stores_theory.proofs.StoreLaws.{put-then, first-fits, next-fits}
+use Rattle.report_theory.specs.Text.{decimal}
+use Rattle.report_theory.specs.Steps.{signBytes}
 use Rattle.report.proofs.put_word.Statement.{statement}
 use Rattle.report.proofs.put_word.Tie as tie
 

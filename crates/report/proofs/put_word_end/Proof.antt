@@ -6,16 +6,9 @@ use lib.ListN.{length-set}
 use Rattle.report.proofs.put_word_end.Statement.{statement}
 use Rattle.report.proofs.put_word_end.Tie as tie
 
-returns : tie.Need-returns
-returns c = refl
-
 pub put-word-end-spec : {M : Type 1} → statement M
 put-word-end-spec =
     tie.close
     (tie.spec
-    (λ c. search needs)
-    (λ c. simp length-set (omega arith))
-    (λ c. simp length-set (omega arith))
-    (λ c. search needs)
-    (λ c. search needs)
-    returns)
+    (λ c. search needs) (λ c. simp length-set (omega arith)) (λ c. simp length-set (omega arith)) (λ c. search needs)
+    (λ c. search needs) (λ c. refl))

@@ -1,7 +1,7 @@
 -- `put_words` meets its contract.
 use borrow.Author.Needs.{needs}
-use Rattle.report.specs.Steps.{wordBytes}
-use Rattle.report.proofs.Puts.{put-then, first-fits, next-fits}
+use Rattle.stores_theory.proofs.StoreLaws.{put-then, first-fits, next-fits}
+use Rattle.report_theory.specs.Steps.{wordBytes}
 use Rattle.report.proofs.put_words.Statement.{statement}
 use Rattle.report.proofs.put_words.Tie as tie
 

@@ -1,7 +1,7 @@
 -- `split_ends` meets its contract.
 use mathlib.Core.Path.{refl}
 use borrow.Author.Needs.{needs}
-use Rattle.signed.proofs.Laws.{back}
+use Rattle.signed_theory.proofs.Laws.{back}
 use Rattle.report.proofs.split_ends.Statement.{statement}
 use Rattle.report.proofs.split_ends.Tie as tie
 

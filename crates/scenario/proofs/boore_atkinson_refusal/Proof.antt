@@ -1,8 +1,8 @@
 -- `boore_atkinson_refusal` meets its contract.
 use borrow.Author.Needs.{needs}
-use Rattle.scenario.specs.Refusal.{booreAtkinson}
-use Rattle.scenario.proofs.RefusalLaws.{by-limits}
-use Rattle.scenario.proofs.RowLaws.{boore-atkinson-untabled}
+use Rattle.scenario_theory.specs.Refusal.{booreAtkinson}
+use Rattle.scenario_theory.proofs.RefusalLaws.{by-limits}
+use Rattle.scenario_theory.proofs.RowLaws.{boore-atkinson-untabled}
 use Rattle.scenario.proofs.boore_atkinson_refusal.Statement.{statement}
 use Rattle.scenario.proofs.boore_atkinson_refusal.Tie as tie
 
@@ -22,10 +22,5 @@ pub boore-atkinson-refusal-spec : {M : Type 1} → statement M
 boore-atkinson-refusal-spec =
     tie.close
     (tie.spec
-    (λ c κs. search needs)
-    (λ c κs. search needs)
-    (λ c κs. search needs)
-    (λ c κs. search needs)
-    (λ c κs. search needs)
-    (λ c κs. search needs)
-    returns)
+    (λ c κs. search needs) (λ c κs. search needs) (λ c κs. search needs) (λ c κs. search needs) (λ c κs. search needs)
+    (λ c κs. search needs) returns)

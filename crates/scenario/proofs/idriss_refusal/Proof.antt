@@ -1,8 +1,8 @@
 -- `idriss_refusal` meets its contract.
 use borrow.Author.Needs.{needs}
-use Rattle.scenario.specs.Refusal.{idriss}
-use Rattle.scenario.proofs.RefusalLaws.{by-limits}
-use Rattle.scenario.proofs.RowLaws.{idriss-untabled}
+use Rattle.scenario_theory.specs.Refusal.{idriss}
+use Rattle.scenario_theory.proofs.RefusalLaws.{by-limits}
+use Rattle.scenario_theory.proofs.RowLaws.{idriss-untabled}
 use Rattle.scenario.proofs.idriss_refusal.Statement.{statement}
 use Rattle.scenario.proofs.idriss_refusal.Tie as tie
 
@@ -22,10 +22,5 @@ pub idriss-refusal-spec : {M : Type 1} → statement M
 idriss-refusal-spec =
     tie.close
     (tie.spec
-    (λ c κs. search needs)
-    (λ c κs. search needs)
-    (λ c κs. search needs)
-    (λ c κs. search needs)
-    (λ c κs. search needs)
-    (λ c κs. search needs)
-    returns)
+    (λ c κs. search needs) (λ c κs. search needs) (λ c κs. search needs) (λ c κs. search needs) (λ c κs. search needs)
+    (λ c κs. search needs) returns)

@@ -1,7 +1,7 @@
 -- `refusal` meets its contract.
 use borrow.Author.Needs.{needs}
 use borrow.Author.Tests.{eq-eqb, ne-eqb}
-use Rattle.scenario.specs.Refusal.{refusalOf}
+use Rattle.scenario_theory.specs.Refusal.{refusalOf}
 use Rattle.scenario.proofs.refusal.Statement.{statement}
 use Rattle.scenario.proofs.refusal.Tie as tie
 
@@ -20,5 +20,4 @@ unfolding refusalOf
 neither c = simp (ne-eqb _ _ (c .before .before .if1 .left), ne-eqb _ _ (c .if2 .left))
 
 pub refusal-spec : {M : Type 1} → statement M
-refusal-spec =
-    tie.close (tie.spec (λ c κs. search needs) idriss (λ c κs. search needs) boore-atkinson neither)
+refusal-spec = tie.close (tie.spec (λ c κs. search needs) idriss (λ c κs. search needs) boore-atkinson neither)

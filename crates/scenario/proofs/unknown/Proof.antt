@@ -7,7 +7,7 @@ use native.Mathlib.Omega.{arith}
 use borrow.Author.Needs.{needs}
 use borrow.Author.Tests.{ne-eqb}
 use lib.Dec.{eqb, ltb}
-use Rattle.scenario.specs.Lists.{among}
+use Rattle.toolbox_theory.specs.Lists.{among}
 use Rattle.scenario.proofs.unknown.Statement.{statement}
 use Rattle.scenario.proofs.unknown.Tie as tie
 

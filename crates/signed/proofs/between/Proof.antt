@@ -2,16 +2,10 @@
 use mathlib.Core.Path.{refl}
 use native.Mathlib.Omega.{arith}
 use borrow.Author.Needs.{needs}
-use Rattle.signed.specs.Evaluation.{betweenOf}
-use Rattle.signed.proofs.Laws.{stored}
+use Rattle.signed_theory.specs.Evaluation.{betweenOf}
+use Rattle.signed_theory.proofs.Laws.{stored}
 use Rattle.signed.proofs.between.Statement.{statement}
 use Rattle.signed.proofs.between.Tie as tie
-
-difference-requires : tie.Need-difference-requires
-difference-requires c κs = search needs
-
-difference-requires-2 : tie.Need-difference-requires-2
-difference-requires-2 c κs = search needs
 
 returns : tie.Need-returns
 unfolding betweenOf
@@ -23,4 +17,4 @@ returns c =
     ) refl
 
 pub between-spec : {M : Type 1} → statement M
-between-spec = tie.close (tie.spec difference-requires difference-requires-2 returns)
+between-spec = tie.close (tie.spec (λ c κs. search needs) (λ c κs. search needs) returns)

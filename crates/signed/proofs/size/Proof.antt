@@ -10,7 +10,7 @@ use lib.Signed.{mag, ltZ}
 use mir.Syntax.{w64}
 use mir.Val.{toZ, ofZ, SFits, Fits}
 use mir.ValLaws.{toZ-ofZ}
-use Rattle.signed.proofs.Laws.{back, plus-one, negated, below-zero, not-below}
+use Rattle.signed_theory.proofs.Laws.{back, plus-one, negated, below-zero, not-below}
 use Rattle.signed.proofs.size.Statement.{statement}
 use Rattle.signed.proofs.size.Tie as tie
 
@@ -39,12 +39,12 @@ negates c = let h = found c in rw (h .is, negated (h .n) (h .small)) (record { s
 casts : tie.Need-cast-result
 casts c =
     let h = found c in
-    rw (h .is, negated (h .n) (h .small), back (pos (h .n)) (h .small)) (tt, record { fits = omega (arith, h .small) })
+    rw (h .is, negated (h .n) (h .small), back (pos (h .n)) (h .small)) (tt, record { fits = omega arith })
 
 adds-back : tie.Need-add-result-2
 adds-back c =
     let h = found c in
-    rw (h .is, negated (h .n) (h .small), back (pos (h .n)) (h .small)) (record { fits = omega (arith, h .small) })
+    rw (h .is, negated (h .n) (h .small), back (pos (h .n)) (h .small)) (record { fits = omega arith })
 
 below : tie.Need-returns
 below c =
@@ -52,8 +52,8 @@ below c =
     rw (h .is, negated (h .n) (h .small), back (pos (h .n)) (h .small)) (add-one (h .n) ∙ sym (ap natAbs (h .same)))
 
 fit : (z : ℤ) → SFits w64 z → Fits w64 (natAbs z)
-fit (pos n) f = record { fits = omega (arith, f .sfits) }
-fit (negsuc n) f = record { fits = omega (arith, f .sfits) }
+fit (pos n) f = record { fits = omega arith }
+fit (negsuc n) f = record { fits = omega arith }
 
 casts-same : tie.Need-cast-result-2
 casts-same c =

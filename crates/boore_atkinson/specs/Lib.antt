@@ -1,9 +1,0 @@
-pub mod Tables
-pub mod Rock
-pub mod SiteTerm
-pub mod Median
-pub mod Rows
-pub mod Constants
-pub mod Promise
-pub mod Evaluation
-pub mod Sizes

@@ -1,0 +1,192 @@
+// The site term: the linear part and the nonlinear part.
+ghost use mathlib.Core.Path.{_≡_};
+ghost use Prim.Native.Nat.{_≤_, _<_};
+ghost use Rattle.outward_theory.specs.Evaluation.{Sized};
+ghost use Rattle.boore_atkinson_theory.specs.Rows.{SiteLimits};
+ghost use Rattle.boore_atkinson_theory.specs.Evaluation.{exactly, velocityLnOf, linearOf, slowSlopeOf, fastSlopeOf};
+ghost use Rattle.boore_atkinson_theory.specs.Evaluation.{slopeOf, zOf, cubicOf, straightOf, branchOf, curveOf};
+ghost use Rattle.boore_atkinson_theory.specs.Evaluation.{nonlinearOf};
+ghost use Rattle.boore_atkinson_theory.specs.Constants.{minusLnA2, vrefTenths, v2Tenths, v1Tenths};
+ghost use Rattle.boore_atkinson_theory.specs.Sizes.{MotionSized, curveMost};
+use boore_atkinson_theory::Motion;
+use boore_atkinson_theory::SiteRow;
+use logarithm_theory::Ends;
+use outward::greater;
+use outward::lesser;
+use outward::multiple;
+use outward::product;
+use outward::span;
+use outward::sum;
+
+// ln(0.1/0.06), 1/ln(300/180), 1/ln(760/300), and c and d over the slope.
+const MINUS_LN_LOW: Ends = Ends {
+    low: 510_825_623,
+    high: 510_825_624,
+};
+
+const OVER_SLOW: Ends = Ends {
+    low: 1_957_615_188,
+    high: 1_957_615_192,
+};
+
+const OVER_FAST: Ends = Ends {
+    low: 1_075_805_610,
+    high: 1_075_805_612,
+};
+
+const C_OVER: Ends = Ends {
+    low: 97_587_419,
+    high: 97_587_424,
+};
+
+const D_OVER: Ends = Ends {
+    low: 216_959_882,
+    high: 216_959_886,
+};
+
+fn exact(n: u64) -> Ends
+    ensures { λ e. ⌜ e ≡ exactly n ⌝ }
+{
+    Ends { low: n, high: n }
+}
+
+// The size of ln(V/760), which the linear part and the slope have in common.
+pub fn velocity_ln(v: u64) -> Ends
+    requires { ⌜ (v1Tenths ≤ v) × (v ≤ 13_000) ⌝ }
+    ensures { λ l. ⌜ l ≡ velocityLnOf v ⌝ }
+{
+    if v < 7_600 {
+        return logarithm::ln(7_600, v);
+    }
+    logarithm::ln(v, 7_600)
+}
+
+// blin ln(V/760), where l is the size of the logarithm.
+pub fn linear(s: SiteRow, v: u64, l: Ends) -> Motion
+    requires { ⌜ SiteLimits s × (v1Tenths ≤ v) × (v ≤ 13_000) × (l ≡ velocityLnOf v) ⌝ }
+    ensures { λ a. ⌜ (a ≡ linearOf s v) × MotionSized a 3 16_000_000_000 ⌝ }
+{
+    let term = multiple(20_000 * s.0 as u64, l);
+    if v < 7_600 {
+        return Motion {
+            gain: term,
+            loss: exact(0),
+        };
+    }
+    Motion {
+        gain: exact(0),
+        loss: term,
+    }
+}
+
+// −bnl from 180 to 300 m/s.
+fn slow_slope(s: SiteRow, v: u64) -> Ends
+    requires { ⌜ SiteLimits s × (v1Tenths ≤ v) × (v ≤ v2Tenths) ⌝ }
+    ensures { λ n. ⌜ (n ≡ slowSlopeOf s v) × Sized n 6 900_000_000 ⌝ }
+{
+    let ratio = product(logarithm::ln(3_000, v), OVER_SLOW);
+    let b2 = s.2 as u64;
+    sum(
+        multiple(20_000 * (s.1 as u64 - 10 * b2), ratio),
+        exact(10_000_000 * b2),
+    )
+}
+
+// −bnl from 300 to 760 m/s, where l is ln(760/V).
+fn fast_slope(s: SiteRow, v: u64, l: Ends) -> Ends
+    requires { ⌜ SiteLimits s × (v2Tenths ≤ v) × (v < vrefTenths) × (l ≡ velocityLnOf v) ⌝ }
+    ensures { λ n. ⌜ (n ≡ fastSlopeOf s v) × Sized n 6 900_000_000 ⌝ }
+{
+    let ratio = product(l, OVER_FAST);
+    multiple(200_000 * s.2 as u64, ratio)
+}
+
+// −bnl, where l is the size of ln(V/760).
+fn slope(s: SiteRow, v: u64, l: Ends) -> Ends
+    requires { ⌜ SiteLimits s × (v1Tenths ≤ v) × (l ≡ velocityLnOf v) ⌝ }
+    ensures { λ n. ⌜ (n ≡ slopeOf s v) × Sized n 6 900_000_000 ⌝ }
+{
+    if v <= 1_800 {
+        return exact(1_000_000 * s.1 as u64);
+    }
+    if v <= 3_000 {
+        return slow_slope(s, v);
+    }
+    if v < 7_600 {
+        return fast_slope(s, v, l);
+    }
+    exact(0)
+}
+
+// z = p − ln 0.03, where −p lies in b and p is above ln 0.03 and up to ln 0.09.
+fn transition_z(b: Ends) -> Ends
+    requires { ⌜ (b .low ≤ b .high) × (b .low < 3_506_557_898) × (2_407_945_608 ≤ b .high) ⌝ }
+    ensures { λ z. ⌜ (z ≡ zOf b) × Sized z 1_098_612_290 1_098_612_290 ⌝ }
+{
+    Ends {
+        low: 3_506_557_897 - lesser(b.high, 3_506_557_897),
+        high: 3_506_557_898 - greater(b.low, 2_407_945_608),
+    }
+}
+
+// c z² + d z³ over the slope.
+fn cubic(z: Ends) -> Ends
+    requires { ⌜ Sized z 1_098_612_290 1_098_612_290 ⌝ }
+    ensures { λ q. ⌜ (q ≡ cubicOf z) × Sized q curveMost curveMost ⌝ }
+{
+    let square = product(z, z);
+    sum(product(C_OVER, square), product(D_OVER, product(square, z)))
+}
+
+// p − ln 0.1 − ln(0.06/0.1), where −p lies in b and p is above ln 0.09.
+fn straight(b: Ends) -> Ends
+    requires { ⌜ (b .low ≤ b .high) × (b .low < 2_407_945_609) ⌝ }
+    ensures { λ q. ⌜ (q ≡ straightOf b) × Sized q curveMost curveMost ⌝ }
+{
+    Ends {
+        low: 2_813_410_715 - lesser(b.high, 2_407_945_609),
+        high: 2_813_410_718 - b.low,
+    }
+}
+
+// The branch or branches of p above ln 0.03.
+fn upper(b: Ends) -> Ends
+    requires { ⌜ (b .low ≤ b .high) × (b .low < 3_506_557_898) ⌝ }
+    ensures { λ q. ⌜ (q ≡ branchOf b minusLnA2 (cubicOf (zOf b)) (straightOf b)) × Sized q curveMost curveMost ⌝ }
+{
+    if 2_407_945_609 <= b.low {
+        return cubic(transition_z(b));
+    }
+    let s = straight(b);
+    if b.high < 2_407_945_608 {
+        return s;
+    }
+    span(cubic(transition_z(b)), s)
+}
+
+// What the nonlinear part has beside bnl ln(0.06/0.1), over the slope: every branch that b reaches.
+fn curve(b: Ends) -> Ends
+    requires { ⌜ b .low ≤ b .high ⌝ }
+    ensures { λ q. ⌜ (q ≡ curveOf b) × Sized q curveMost curveMost ⌝ }
+{
+    if 3_506_557_898 <= b.low {
+        return exact(0);
+    }
+    let u = upper(b);
+    if b.high < 3_506_557_897 {
+        return u;
+    }
+    span(exact(0), u)
+}
+
+// The nonlinear part, where l is the size of ln(V/760), and −p lies in b.
+pub fn nonlinear_part(s: SiteRow, v: u64, l: Ends, b: Ends) -> Motion
+    requires { ⌜ SiteLimits s × (v1Tenths ≤ v) × (l ≡ velocityLnOf v) × (b .low ≤ b .high) ⌝ }
+    ensures { λ a. ⌜ (a ≡ nonlinearOf s v b) × MotionSized a 2_554_920_006 2_538_000_001 ⌝ }
+{
+    let n = slope(s, v, l);
+    Motion {
+        gain: product(n, MINUS_LN_LOW),
+        loss: product(n, curve(b)),
+    }
+}

@@ -1,0 +1,20 @@
+-- `total_at` meets its contract: a row for each place, the last for the only place left.
+use mathlib.Core.Path.{refl}
+use Rattle.toolbox_theory.proofs.Places.{only-last}
+use Rattle.boore_atkinson_theory.specs.Tables.{totalAt}
+use Rattle.boore_atkinson_tables.proofs.total_at.Statement.{statement}
+use Rattle.boore_atkinson_tables.proofs.total_at.Tie as tie
+
+pub total-at-spec : {M : Type 1} → statement M
+unfolding totalAt
+total-at-spec =
+    tie.close
+    (tie.spec
+    (λ c. rw (c .match .keys1) refl) (λ c. rw (c .match .keys2) refl) (λ c. rw (c .match .keys3) refl)
+    (λ c. rw (c .match .keys4) refl) (λ c. rw (c .match .keys5) refl) (λ c. rw (c .match .keys6) refl)
+    (λ c. rw (c .match .keys7) refl) (λ c. rw (c .match .keys8) refl) (λ c. rw (c .match .keys9) refl)
+    (λ c. rw (c .match .keys10) refl) (λ c. rw (c .match .keys11) refl) (λ c. rw (c .match .keys12) refl)
+    (λ c. rw (c .match .keys13) refl) (λ c. rw (c .match .keys14) refl) (λ c. rw (c .match .keys15) refl)
+    (λ c. rw (c .match .keys16) refl) (λ c. rw (c .match .keys17) refl) (λ c. rw (c .match .keys18) refl)
+    (λ c. rw (c .match .keys19) refl) (λ c. rw (c .match .keys20) refl) (λ c. rw (c .match .keys21) refl)
+    (λ c. rw (only-last 21 (c .before .pre) (c .match .rest)) refl))

@@ -1,0 +1,218 @@
+-- The nonlinear part is bnl times −ln(0.1/0.06) + θ, and θ lies where the evaluation has it, in whichever branch.
+use mathlib.Core.Path.{_≡_, refl}
+use mathlib.Core.Bool.{Bool, true, false, cond}
+use Prim.Native.Nat.{ℕ, _+_, _*_, _-_, _≤_, _<_, min, max}
+use native.Mathlib.Decide.{decLe}
+use native.Mathlib.Omega.{arith}
+use borrow.Author.Tests.{le-leb, lt-ltb}
+use lib.Dec.{leb, ltb}
+use lib.IntN.{pos, negℤ, subℕ}
+use Rattle.exact_theory.specs.Fraction.{Fraction, _over_, leQ, _≤q_, _<q_, _≈q_, zeroQ, _+q_, negQ, _-q_, _*q_, _/q_}
+use Rattle.exact_theory.specs.Fraction.{recipQ}
+use Rattle.exact_theory.specs.Formula.{Formula, units}
+use Rattle.exact_theory.proofs.FractionLaws.{is-self, zero-Is, add-Is, neg-Is, le-as, le-of, lt-as, ≤q-trans, <q-≤q}
+use Rattle.exact_theory.proofs.FractionLaws.{≤q-<q-trans, <q-≤q-trans, ≈q-sym}
+use Rattle.exact_theory.proofs.AlgebraLaws.{≈q-trans, add-cong, mul-cong-left, mul-cong-right, mul-assoc, mul-add}
+use Rattle.exact_theory.proofs.AlgebraLaws.{mul-swap, mul-sub, neg-swap, neg-twice, add-zero, add-cancel, ≈q-refl}
+use Rattle.exact_theory.proofs.Points.{Points, value}
+use Rattle.exact_theory.proofs.UnitLaws.{Lies, units-Is, lies-negated, lies-same, lies-wider, lies-stated, lies-sum}
+use Rattle.exact_theory.proofs.UnitLaws.{lies-difference}
+use Rattle.logarithm_theory.specs.declared.Ends.{Ends}
+use Rattle.logarithm_theory.proofs.Enclosure.{Known}
+use Rattle.outward_theory.specs.Evaluation.{productOf, spanOf}
+use Rattle.outward_theory.proofs.Laws.{Held, HeldBelow, product-held, sum-held, span-left, span-right}
+use Rattle.boore_atkinson_theory.specs.declared.Motion.{Motion}
+use Rattle.boore_atkinson_theory.specs.SiteTerm.{x, y, c, d, lowPart, transition, highPart, nonlinearPart}
+use Rattle.boore_atkinson_theory.specs.Constants.{minusLnLow, minusLnA1, minusLnA2, cOver, dOver}
+use Rattle.boore_atkinson_theory.specs.Evaluation.{exactly, zOf, cubicOf, straightOf, branchOf, curveOf}
+use Rattle.boore_atkinson_theory.proofs.Constants.{low-held, first-below, second-below, ten-below, c-held}
+use Rattle.boore_atkinson_theory.proofs.Constants.{d-held}
+use Rattle.boore_atkinson_theory.proofs.RockLaws.{Moves}
+
+-- ---- which branches are reached
+
+-- −x lies in b and −y in t: where x is up to y, b reaches up to t; and where x is above y, b reaches below t
+reaches : {x y : Fraction} {b t : Ends} → HeldBelow x b → HeldBelow y t → x ≤q y → t .low ≤ b .high
+reaches {b = b} {t} h k le =
+    omega (arith, le-as (units-Is 0 (b .high)) (units-Is 0 (t .low)) (≤q-trans (h .from) (≤q-trans le (k .to))))
+
+passes : {x y : Fraction} {b t : Ends} → HeldBelow x b → HeldBelow y t → y <q x → b .low < t .high
+passes {b = b} {t} h k lt =
+    omega (arith, lt-as (units-Is 0 (t .high)) (units-Is 0 (b .low)) (≤q-<q-trans (k .from) (<q-≤q-trans lt (h .to))))
+
+module _ (b t : Ends) {θ : Fraction} (A B : Ends) where
+  branch-from : t .low ≤ b .high → Held θ A → Held θ (branchOf b t A B)
+  unfolding branchOf
+  branch-from h k = rw (le-leb (t .low) (b .high) h) (go (ltb (b .low) (t .high)))
+    where
+      go : (c : Bool) → Held θ (cond c (spanOf A B) A)
+      go true = span-left B k
+      go false = k
+
+  branch-below : b .low < t .high → Held θ B → Held θ (branchOf b t A B)
+  unfolding branchOf
+  branch-below h k = rw (lt-ltb (b .low) (t .high) h) (go (leb (t .low) (b .high)))
+    where
+      go : (c : Bool) → Held θ (cond c (spanOf A B) B)
+      go true = span-right A k
+      go false = k
+
+-- ---- what is not below zero
+
+pub not-below : {z : Fraction} {lu ld hu hd : ℕ} → Lies z lu ld hu hd → zeroQ ≤q z → Held z
+    (record { low = lu - ld; high = hu - hd })
+not-below {z} {lu} {ld} {hu} {hd} h some = record {
+  from = low (decLe ld lu);
+  to = ≤q-trans (h .to) (le-of (units-Is hu hd) (units-Is (hu - hd) 0) (omega arith));
+}
+  where
+    order : hd ≤ hu
+    order = omega (arith, le-as zero-Is (units-Is hu hd) (≤q-trans some (h .to)))
+
+    low : Dec (ld ≤ lu) → units (subℕ (lu - ld) 0) ≤q z
+    low (yes g) = ≤q-trans (le-of (units-Is (lu - ld) 0) (units-Is lu ld) (omega arith)) (h .from)
+    low (no g) = ≤q-trans (le-of (units-Is (lu - ld) 0) zero-Is (omega arith)) some
+
+-- x − y where y is below x
+above-zero : {x y : Fraction} → y <q x → zeroQ ≤q x -q y
+unfolding _-q_
+above-zero {x} {y} h =
+    le-of zero-Is (add-Is (is-self x) (neg-Is (is-self y))) (omega (arith, lt-as (is-self y) (is-self x) h))
+
+-- the lesser of two ends is one of them, and so is the greater
+least-of : (m n : ℕ) {x : Fraction} → x ≤q units (subℕ 0 m) → x ≤q units (subℕ 0 n) → x ≤q units (subℕ 0 (max m n))
+least-of m n p q = elim (decLe m n) [
+  | yes g ↦ ≤q-trans q (le-of (units-Is 0 n) (units-Is 0 (max m n)) (omega arith))
+  | no g ↦ ≤q-trans p (le-of (units-Is 0 m) (units-Is 0 (max m n)) (omega arith))
+]
+
+most-of : (m n : ℕ) {x : Fraction} → units (subℕ 0 m) ≤q x → units (subℕ 0 n) ≤q x → units (subℕ 0 (min m n)) ≤q x
+most-of m n p q = elim (decLe m n) [
+  | yes g ↦ ≤q-trans (le-of (units-Is 0 (min m n)) (units-Is 0 m) (omega arith)) p
+  | no g ↦ ≤q-trans (le-of (units-Is 0 (min m n)) (units-Is 0 n) (omega arith)) q
+]
+
+-- ---- θ in each branch
+
+module _ {σ : Points} (known : Known σ) {P : Fraction} {b : Ends} (h : HeldBelow P b) where
+  -- ln(0.1/0.06)
+  abbrev κ : Fraction
+  κ = σ .lnAt 10 6
+
+  -- above ln 0.03 and up to ln 0.09
+  z-held : σ .lnAt 3 100 <q P → P ≤q σ .lnAt 9 100 → Held (P -q σ .lnAt 3 100) (zOf b)
+  unfolding zOf
+  z-held lt le =
+      let p : Lies P 0 (b .high) 0 (max (b .low) (minusLnA2 .low)) = record {
+        from = h .from;
+        to = least-of (b .low) (minusLnA2 .low) (h .to) (≤q-trans le (second-below known .to));
+      } in
+      not-below (lies-wider (lies-difference p (first-below known)) (minusLnA1 .low) (b .high) (minusLnA1 .high)
+      (max (b .low) (minusLnA2 .low)) (omega arith) (omega arith)) (above-zero lt)
+
+  cubic-held : {z c' d' : Fraction} {e : Ends} → Held z e → Held c' cOver → Held d' dOver →
+      Held (c' *q (z *q z) +q d' *q (z *q z *q z)) (cubicOf e)
+  unfolding cubicOf
+  cubic-held p i j =
+      let square = product-held p p in
+      sum-held (product-held i square) (product-held j (product-held square p))
+
+  -- above ln 0.09
+  straight-held : σ .lnAt 9 100 <q P → Held (κ +q (P -q σ .lnAt 1 10)) (straightOf b)
+  unfolding straightOf
+  straight-held lt =
+      let p : Lies P 0 (min (b .high) (minusLnA2 .high)) 0 (b .low) = record {
+        from = most-of (b .high) (minusLnA2 .high) (h .from) (≤q-trans (second-below known .from) (<q-≤q lt));
+        to = h .to;
+      } in
+      let o = passes h (second-below known) lt in
+      lies-wider (lies-sum (low-held known) (lies-difference p (ten-below known))) _ 0 _ 0 (omega arith) (omega arith)
+
+-- ---- the nonlinear part is β (−κ + θ)
+
+-- n (k + θ) for θ between q's ends: β below zero, −β between n's ends
+product-moves : {β κ θ : Fraction} {n k q : Ends} → HeldBelow β n → Held κ k → Held θ q →
+    Moves (β *q (negQ κ +q θ)) (record { gain = productOf n k; loss = productOf n q })
+product-moves {β} {κ} {θ} h low curve =
+    let ν = lies-negated h in
+    lies-same (≈q-sym (mul-add β (negQ κ) θ)) (lies-wider
+    (lies-sum (lies-same (≈q-sym (neg-swap β κ)) (product-held ν low))
+    (lies-same (neg-twice β θ) (lies-negated (product-held ν curve))))
+    _ _ _ _ (omega arith) (omega arith))
+
+-- c and d are β times what they are over the slope
+module _ (β w x r : Fraction) where
+  c-over : (s : Fraction) → (s *q (β *q w) -q β *q x) *q r ≈q β *q ((s *q w -q x) *q r)
+  c-over s = ≈q-trans (mul-cong-left r (mul-sub β w x s)) (mul-assoc β (s *q w -q x) r)
+
+  d-over : (s t : Fraction) → t *q (s *q (β *q w) -q β *q x) *q r ≈q β *q (t *q (s *q w -q x) *q r)
+  d-over s t =
+      ≈q-trans (mul-cong-left r (≈q-trans (mul-cong-right t (mul-sub β w x s)) (mul-swap t β (s *q w -q x))))
+      (mul-assoc β (t *q (s *q w -q x)) r)
+
+-- β a + (c u + d v), c and d being β c' and β d', is β (a + (c' u + d' v))
+gathered : {c d : Fraction} (β a c' d' u v : Fraction) → c ≈q β *q c' → d ≈q β *q d' →
+    β *q a +q (c *q u +q d *q v) ≈q β *q (a +q (c' *q u +q d' *q v))
+gathered β a c' d' u v ec ed =
+    let cu = ≈q-trans (mul-cong-left u ec) (mul-assoc β c' u) in
+    let dv = ≈q-trans (mul-cong-left v ed) (mul-assoc β d' v) in
+    ≈q-trans (add-cong (≈q-refl (β *q a)) (≈q-trans (add-cong cu dv) (mul-add β (c' *q u) (d' *q v))))
+    (mul-add β a (c' *q u +q d' *q v))
+
+module _ {σ : Points} (known : Known σ) (slope p : Formula) {n b : Ends} (h : HeldBelow (value σ slope) n)
+    (k : HeldBelow (value σ p) b) where
+  abbrev β : Fraction
+  β = value σ slope
+
+  abbrev P : Fraction
+  P = value σ p
+
+  -- the evaluation, by θ's ends
+  abbrev own : Ends → Motion
+  own q = record { gain = productOf n minusLnLow; loss = productOf n q }
+
+  low-same : value σ (lowPart slope) ≈q β *q negQ (σ .lnAt 10 6)
+  unfolding value lowPart
+  low-same = rw (known .ln-negated {a = 6} {b = 10} (omega arith)) (≈q-refl _)
+
+  -- up to ln 0.03: θ is 0
+  low-moves : P ≤q σ .lnAt 3 100 → Moves (value σ (lowPart slope)) (own (curveOf b))
+  unfolding curveOf
+  low-moves le =
+      lies-same (≈q-trans low-same (mul-cong-right β (add-zero (negQ (σ .lnAt 10 6)))))
+      (product-moves h (low-held known) (branch-from b minusLnA1 (exactly 0) _ (reaches k (first-below known) le)
+      (lies-stated zero-Is 0 0 (omega arith))))
+
+  -- up to ln 0.09
+  transition-moves : σ .lnAt 3 100 <q P → P ≤q σ .lnAt 9 100 → Moves (value σ (transition slope p)) (own (curveOf b))
+  unfolding value transition c d x y _/q_ curveOf
+  transition-moves lt le =
+      let z : Fraction = P -q σ .lnAt 3 100 in
+      let w : Fraction = σ .lnAt 15 10 in
+      let l : Fraction = σ .lnAt 3 1 in
+      lies-same (≈q-trans (add-cong low-same (≈q-refl _))
+      (gathered β (negQ (σ .lnAt 10 6)) _ _ (z *q z) (z *q z *q z) (c-over β w l (recipQ (l *q l)) (pos 3 over 1))
+      (d-over β w l (recipQ (l *q l *q l)) (pos 2 over 1) (negℤ (pos 1) over 1)))) (product-moves h (low-held known)
+      (branch-below b minusLnA1 (exactly 0) _ (passes k (first-below known) lt)
+      (branch-from b minusLnA2 _ (straightOf b) (reaches k (second-below known) le)
+      (cubic-held known k (z-held known k lt le) (c-held known) (d-held known)))))
+
+  -- above
+  high-moves : σ .lnAt 3 100 <q P → σ .lnAt 9 100 <q P → Moves (value σ (highPart slope p)) (own (curveOf b))
+  unfolding value highPart curveOf
+  high-moves lt beyond =
+      lies-same (mul-cong-right β (add-cancel (σ .lnAt 10 6) (P -q σ .lnAt 1 10))) (product-moves h (low-held known)
+      (branch-below b minusLnA1 (exactly 0) _ (passes k (first-below known) lt)
+      (branch-below b minusLnA2 (cubicOf (zOf b)) _ (passes k (second-below known) beyond)
+      (straight-held known k beyond))))
+
+  pub nonlinear-moves : Moves (value σ (nonlinearPart slope p)) (own (curveOf b))
+  unfolding value nonlinearPart
+  nonlinear-moves = go (leQ P (σ .lnAt 3 100)) (leQ P (σ .lnAt 9 100)) refl refl
+    where
+      go : (i j : Bool) → leQ P (σ .lnAt 3 100) ≡ i → leQ P (σ .lnAt 9 100) ≡ j →
+          Moves (cond i (value σ (lowPart slope)) (cond j (value σ (transition slope p)) (value σ (highPart slope p))))
+          (own (curveOf b))
+      go true j ei ej = low-moves record { le = rw ei tt }
+      go false true ei ej = transition-moves record { lt = rw ei tt } record { le = rw ej tt }
+      go false false ei ej = high-moves record { lt = rw ei tt } record { lt = rw ej tt }

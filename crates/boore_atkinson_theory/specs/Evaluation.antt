@@ -1,0 +1,164 @@
+-- What median and sigma compute, in whole numbers of units of 10^-9. A change of the way of computing swaps these
+-- definitions behind their names; callers go by the laws of proofs/Laws, and never by this text.
+use mathlib.Core.Bool.{cond}
+use Prim.Native.Nat.{ℕ, _+_, _*_, _-_, _/_, min, max}
+use lib.Dec.{eqb, leb, ltb}
+use Rattle.signed_theory.specs.declared.Ends as signed
+use Rattle.signed_theory.specs.Evaluation.{betweenOf}
+use Rattle.logarithm_theory.specs.declared.Ends.{Ends}
+use Rattle.logarithm_theory.specs.Evaluation.{lnOf, rootOf}
+use Rattle.outward_theory.specs.Evaluation.{multipleOf, productOf, sumOf, spanOf}
+use Rattle.boore_atkinson_theory.specs.declared.Motion.{Motion}
+use Rattle.boore_atkinson_theory.specs.declared.EffectiveDistance.{EffectiveDistance}
+use Rattle.boore_atkinson_theory.specs.declared.Exact.{Exact}
+use Rattle.boore_atkinson_theory.specs.declared.SiteRow.{SiteRow}
+use Rattle.boore_atkinson_theory.specs.declared.DistanceRow.{DistanceRow}
+use Rattle.boore_atkinson_theory.specs.declared.MagnitudeRow.{MagnitudeRow}
+use Rattle.boore_atkinson_theory.specs.Tables.{Total, SiteAmplification, Row, pga}
+use Rattle.boore_atkinson_theory.specs.Rock.{sumOfSquares}
+use Rattle.boore_atkinson_theory.specs.Rows.{siteParts, distanceParts, magnitudeParts}
+use Rattle.boore_atkinson_theory.specs.Constants.{minusLnLow, minusLnA1, minusLnA2, lnTen, overSlow, overFast}
+use Rattle.boore_atkinson_theory.specs.Constants.{vrefTenths, v2Tenths, v1Tenths, cOver, dOver}
+
+-- equal ends
+abbrev pub exactly : ℕ → Ends
+exactly n = record { low = n; high = n }
+
+-- ---- on rock
+
+-- R, from the k of the root's lower value: 10^9/100/131072 = 78125/1024
+unfoldable pub kmOf : ℕ → Ends
+kmOf k = record { low = k * 78_125 / 1_024; high = (k + 1) * 78_125 / 1_024 + 1 }
+
+-- ln R² and R
+unfoldable pub effectiveOf : ℕ → ℕ → EffectiveDistance
+effectiveOf d h = record { ln = lnOf (sumOfSquares d h) 10_000; km = kmOf (rootOf (sumOfSquares d h)) }
+
+-- −(c1 + c2 (M − Mref)), in 10^-7
+unfoldable pub spreadOf : DistanceRow → ℕ → ℕ
+spreadOf r m = 100 * r .0 + r .2 * (m - 450) - r .1 * (m - 450)
+
+-- −(c1 + c2 (M − Mref)) ln R − c3 R
+unfoldable pub fallOf : DistanceRow → ℕ → EffectiveDistance → Ends
+fallOf r m s = sumOf (multipleOf (spreadOf r m) (s .ln)) (multipleOf (200 * r .3) (s .km))
+
+-- e
+unfoldable pub levelOf : MagnitudeRow → ℕ → Exact
+levelOf r mechanism =
+    cond (eqb mechanism 9) record { gain = 10_000 * r .0; loss = 10_000 * r .1 }
+    (cond (eqb mechanism 0) record { gain = 10_000 * r .2; loss = 10_000 * r .3 }
+    (cond (eqb mechanism 1) record { gain = 10_000 * r .4; loss = 10_000 * r .5 }
+    record { gain = 10_000 * r .6; loss = 10_000 * r .7 }))
+
+-- the magnitude term
+unfoldable pub magnitudeOf : MagnitudeRow → ℕ → ℕ → Exact
+magnitudeOf r m mechanism =
+    let e : Exact = levelOf r mechanism in
+    cond (leb m (r .11))
+    record { gain = e .gain; loss = e .loss + 100 * (r .8 * (r .11 - m)) + r .9 * ((r .11 - m) * (r .11 - m)) }
+    record { gain = e .gain + 100 * (r .10 * (m - r .11)); loss = e .loss }
+
+unfoldable pub rockOf : DistanceRow → MagnitudeRow → ℕ → EffectiveDistance → ℕ → Motion
+rockOf r q m s mechanism =
+    let f : Ends = fallOf r m s in
+    let g : Exact = magnitudeOf q m mechanism in
+    record {
+      gain = exactly (g .gain + 10_000 * r .3);
+      loss = record { low = g .loss + f .low; high = g .loss + f .high };
+    }
+
+-- −p
+unfoldable pub belowOf : ℕ → ℕ → ℕ → Ends
+belowOf m d mechanism =
+    let a : Motion =
+    rockOf (distanceParts (pga .distance)) (magnitudeParts (pga .magnitude)) m
+    (effectiveOf d (pga .distance .h)) mechanism in
+    record { low = a .loss .low - a .gain .low; high = a .loss .high - a .gain .low }
+
+-- ---- the site term
+
+-- the size of ln(V/760)
+unfoldable pub velocityLnOf : ℕ → Ends
+velocityLnOf v = cond (ltb v vrefTenths) (lnOf vrefTenths v) (lnOf v vrefTenths)
+
+unfoldable pub linearOf : SiteRow → ℕ → Motion
+linearOf s v =
+    cond (ltb v vrefTenths)
+    record { gain = multipleOf (20_000 * s .0) (lnOf vrefTenths v); loss = exactly 0 }
+    record { gain = exactly 0; loss = multipleOf (20_000 * s .0) (lnOf v vrefTenths) }
+
+-- −bnl from 180 to 300 m/s, and from 300 to 760
+unfoldable pub slowSlopeOf : SiteRow → ℕ → Ends
+slowSlopeOf s v =
+    sumOf (multipleOf (20_000 * (s .1 - 10 * s .2)) (productOf (lnOf v2Tenths v) overSlow))
+    (exactly (10_000_000 * s .2))
+
+unfoldable pub fastSlopeOf : SiteRow → ℕ → Ends
+fastSlopeOf s v = multipleOf (200_000 * s .2) (productOf (lnOf vrefTenths v) overFast)
+
+-- −bnl
+unfoldable pub slopeOf : SiteRow → ℕ → Ends
+slopeOf s v =
+    cond (leb v v1Tenths) (exactly (1_000_000 * s .1))
+    (cond (leb v v2Tenths) (slowSlopeOf s v) (cond (ltb v vrefTenths) (fastSlopeOf s v) (exactly 0)))
+
+-- z = p − ln 0.03 in the middle branch, where p is above ln 0.03 and up to ln 0.09
+unfoldable pub zOf : Ends → Ends
+zOf b = record { low = minusLnA1 .low - b .high; high = minusLnA1 .high - max (b .low) (minusLnA2 .low) }
+
+-- c z² + d z³ over the slope
+unfoldable pub cubicOf : Ends → Ends
+cubicOf z =
+    let square : Ends = productOf z z in
+    sumOf (productOf cOver square) (productOf dOver (productOf square z))
+
+-- p − ln 0.1 − ln(0.06/0.1) in the upper branch, where p is above ln 0.09
+unfoldable pub straightOf : Ends → Ends
+straightOf b = record {
+  low = minusLnLow .low + lnTen .low - min (b .high) (minusLnA2 .high);
+  high = minusLnLow .high + lnTen .high - b .low;
+}
+
+-- A where −p, which lies in b, is from t on, B where it is below t, and both where either may be
+unfoldable pub branchOf : Ends → Ends → Ends → Ends → Ends
+branchOf b t A B = cond (leb (t .low) (b .high)) (cond (ltb (b .low) (t .high)) (spanOf A B) A) B
+
+-- what the nonlinear part has beside bnl ln(0.06/0.1), over the slope
+unfoldable pub curveOf : Ends → Ends
+curveOf b = branchOf b minusLnA1 (exactly 0) (branchOf b minusLnA2 (cubicOf (zOf b)) (straightOf b))
+
+unfoldable pub nonlinearOf : SiteRow → ℕ → Ends → Motion
+nonlinearOf s v b =
+    let n : Ends = slopeOf s v in
+    record { gain = productOf n minusLnLow; loss = productOf n (curveOf b) }
+
+-- −p as the median rests on it: from here on the slope is 0, and nothing depends on p
+abbrev pub flatFrom : ℕ
+flatFrom = vrefTenths
+
+unfoldable pub belowFor : ℕ → ℕ → ℕ → ℕ → Ends
+belowFor v m d mechanism = cond (leb flatFrom v) (exactly 0) (belowOf m d mechanism)
+
+-- ---- sums
+
+unfoldable pub endsOf : Motion → signed.Ends
+endsOf a = betweenOf (a .gain .low) (a .loss .high) (a .gain .high) (a .loss .low)
+
+unfoldable pub plusOf : Motion → Motion → Motion
+plusOf a b = record { gain = sumOf (a .gain) (b .gain); loss = sumOf (a .loss) (b .loss) }
+
+unfoldable pub medianOf : Row → ℕ → ℕ → ℕ → ℕ → signed.Ends
+medianOf r m d v mechanism =
+    let rock : Motion =
+    rockOf (distanceParts (r .distance)) (magnitudeParts (r .magnitude)) m
+    (effectiveOf d (r .distance .h)) mechanism in
+    let s : SiteRow = siteParts (r .site) in
+    endsOf (plusOf (plusOf rock (linearOf s v)) (nonlinearOf s v (belowOf m d mechanism)))
+
+unfoldable pub nonlinearEndsOf : SiteAmplification → ℕ → Ends → signed.Ends
+nonlinearEndsOf s v b = endsOf (nonlinearOf (siteParts s) v b)
+
+unfoldable pub sigmaOf : Total → ℕ → signed.Ends
+sigmaOf t mechanism =
+    let z : ℕ = 1_000_000 * cond (eqb mechanism 9) (t .σTU) (t .σTM) in
+    betweenOf z 0 z 0

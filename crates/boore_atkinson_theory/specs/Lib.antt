@@ -1,0 +1,9 @@
+pub mod Tables
+pub mod Rock
+pub mod SiteTerm
+pub mod Median
+pub mod Constants
+pub mod Rows
+pub mod Evaluation
+pub mod Promise
+pub mod Sizes

@@ -1,0 +1,64 @@
+-- What is promised of the ends of median, sigma and nonlinear part, whatever the engine computes. proofs/Laws shows it
+-- of `medianOf`, `sigmaOf` and `nonlinearEndsOf`, which the contracts name; nobody has to read those to believe it.
+use mathlib.Core.Path.{_≡_}
+use Prim.Native.Nat.{ℕ, _+_, _^_, _≤_, _<_}
+use lib.IntN.{pos, negℤ, _+ℤ_}
+use lib.Signed.{_≤ℤ_}
+use Rattle.exact_theory.specs.Fraction.{Fraction}
+use Rattle.exact_theory.specs.Pair.{_∈_}
+use Rattle.exact_theory.specs.Formula.{stated, ends, Encloses}
+use Rattle.signed_theory.specs.declared.Ends.{Ends}
+use Rattle.signed_theory.specs.Evaluation.{SmallerThan}
+use Rattle.logarithm_theory.specs.declared.Ends as natural
+use Rattle.scenario_theory.specs.Refusal.{booreAtkinson}
+use Rattle.scenario_theory.specs.Rows.{rowCount}
+use Rattle.boore_atkinson_theory.specs.Tables.{SiteAmplification, Total, Row}
+use Rattle.boore_atkinson_theory.specs.SiteTerm.{bnl, nonlinearPart}
+use Rattle.boore_atkinson_theory.specs.Median.{median, sigma}
+
+-- the arguments of the median: a row of the tables, and numbers within the limits of the model
+pub record MedianDomain (k magnitude projectionDistance velocity : ℕ) : Type 0 where
+  pub row : k < rowCount
+  pub magnitude-low : booreAtkinson .magnitude .low ≤ magnitude
+  pub magnitude-high : magnitude ≤ booreAtkinson .magnitude .high
+  pub near : projectionDistance ≤ booreAtkinson .distance .high
+  pub slow : booreAtkinson .velocity .low ≤ velocity
+  pub fast : velocity ≤ booreAtkinson .velocity .high
+
+-- the arguments of the nonlinear part: −p lies between the ends of b, so that p is at most 0
+pub record NonlinearDomain (k velocity : ℕ) (b : natural.Ends) : Type 0 where
+  pub row : k < rowCount
+  pub slow : booreAtkinson .velocity .low ≤ velocity
+  pub fast : velocity ≤ booreAtkinson .velocity .high
+  pub order : b .low ≤ b .high
+
+-- how far the ends of the median are apart at most; demand 3 allows 2,000
+abbrev pub medianWidth : ℕ
+medianWidth = 49
+
+-- how far the ends of p are apart at most, and those of the nonlinear part where p's are
+abbrev pub rockWidth : ℕ
+rockWidth = 4
+
+abbrev pub nonlinearWidth : ℕ
+nonlinearWidth = 42
+
+-- e encloses the median by the row r, at every fineness, is narrow, and has ends that a double equals
+pub record MedianEnds (r : Row) (magnitude projectionDistance velocity mechanism : ℕ) (e : Ends) : Type 0 where
+  pub encloses : Encloses (ends (e .low) (e .high)) (median r magnitude projectionDistance velocity mechanism)
+  pub narrow : e .high ≤ℤ (e .low +ℤ pos medianWidth)
+  pub small : SmallerThan (2 ^ 53) e
+
+-- e encloses the nonlinear part for every p of a pair, at every fineness, is narrow where p is, and has ends that a
+-- double equals
+pub record NonlinearEnds (s : SiteAmplification) (velocity : ℕ) (b : natural.Ends) (e : Ends) : Type 0 where
+  pub encloses : (p : Fraction) → p ∈ ends (negℤ (pos (b .high))) (negℤ (pos (b .low))) →
+      Encloses (ends (e .low) (e .high)) (nonlinearPart (bnl s velocity) (stated p))
+  pub narrow : b .high ≤ b .low + rockWidth → e .high ≤ℤ (e .low +ℤ pos nonlinearWidth)
+  pub small : SmallerThan (2 ^ 53) e
+
+-- e encloses sigma, at every fineness, and has ends that a double equals; "Its two ends are equal"
+pub record SigmaEnds (t : Total) (mechanism : ℕ) (e : Ends) : Type 0 where
+  pub encloses : Encloses (ends (e .low) (e .high)) (sigma t mechanism)
+  pub equal : e .high ≡ e .low
+  pub small : SmallerThan (2 ^ 53) e

@@ -1,3 +1,0 @@
-pub mod Models
-pub mod Promise
-pub mod Evaluation

@@ -1,0 +1,98 @@
+-- What the engine computes. A change of the way of computing swaps these definitions behind their names; callers go by
+-- the promises of specs/Promise, and by equal answers to equal scenarios, and never by this text.
+use mathlib.Core.Bool.{cond}
+use Prim.Native.Nat.{ℕ, _^_}
+use mathlib.Core.List.{List}
+use lib.Dec.{eqb}
+use lib.IntN.{ℤ}
+use lib.Ieee.{Float, Format, binary64, ofInt}
+use Rattle.signed_theory.specs.Evaluation.{SmallerThan}
+use Rattle.scenario_theory.specs.declared.Scenario.{Scenario}
+use Rattle.scenario_theory.specs.Checks.{unlessRefused}
+use Rattle.scenario_theory.specs.Refusal.{idrissRow, booreAtkinsonRow, refusalOf}
+use Rattle.record_theory.specs.Outcome.{scenarioIn, readRefusal}
+use Rattle.idriss_theory.specs.Tables.{rowFor as idrissRowFor}
+use Rattle.idriss_theory.specs.Evaluation.{medianOf as idrissMedianOf, sigmaOf as idrissSigmaOf}
+use Rattle.boore_atkinson_theory.specs.Tables.{rowFor as booreAtkinsonRowFor, totalFor as booreAtkinsonTotalFor}
+use Rattle.boore_atkinson_theory.specs.Evaluation.{medianOf as booreAtkinsonMedianOf, sigmaOf as booreAtkinsonSigmaOf}
+use Rattle.engine_theory.specs.declared.Enclosure.{Enclosure}
+use Rattle.engine_theory.specs.declared.Doubles.{Doubles}
+use Rattle.engine_theory.specs.declared.Answer.{Answer}
+use Rattle.engine_theory.specs.declared.Answer.the-variants as A
+use Rattle.engine_theory.specs.declared.DoublesAnswer.{DoublesAnswer}
+use Rattle.engine_theory.specs.declared.DoublesAnswer.the-variants as D
+use Rattle.engine_theory.specs.Models.{byModel}
+
+-- the scenario that has the fields
+abbrev pub scenarioWith : ℕ → ℕ → ℕ → ℕ → ℕ → ℕ → Scenario
+scenarioWith model magnitude distance velocity mechanism period =
+    record {
+      model = model;
+      magnitude = magnitude;
+      distance = distance;
+      velocity = velocity;
+      mechanism = mechanism;
+      period = period;
+    }
+
+-- the row of a period in the tables of its model
+abbrev pub rowOf : ℕ → ℕ → ℕ
+rowOf model period = cond (eqb model 1) (idrissRow period) (booreAtkinsonRow period)
+
+-- ---- in whole numbers of units
+
+unfoldable pub enclosureOf : Scenario → Enclosure
+enclosureOf s =
+    byModel s
+    record {
+      median = idrissMedianOf (idrissRowFor (s .magnitude) (s .period)) (s .magnitude) (s .distance) (s .velocity)
+          (s .mechanism);
+      sigma = idrissSigmaOf (s .period) (s .magnitude);
+    }
+    record {
+      median = booreAtkinsonMedianOf (booreAtkinsonRowFor (s .period)) (s .magnitude) (s .distance) (s .velocity)
+          (s .mechanism);
+      sigma = booreAtkinsonSigmaOf (booreAtkinsonTotalFor (s .period)) (s .mechanism);
+    }
+
+-- where k is the number of the first check that applies
+unfoldable pub answerBy : ℕ → Scenario → Answer
+answerBy k s = unlessRefused k (A.Enclosed (enclosureOf s)) (A.Refused k)
+
+-- from fields
+unfoldable pub answerOf : Scenario → Answer
+answerOf s = answerBy (refusalOf s) s
+
+-- from a record
+unfoldable pub recordAnswerOf : List ℕ → Answer
+recordAnswerOf bytes = answerBy (readRefusal bytes) (scenarioIn bytes)
+
+-- ---- in doubles
+
+-- all ends are below 2 ^ 53 in size
+pub record SmallEnclosure (e : Enclosure) : Type 0 where
+  pub median : SmallerThan (2 ^ 53) (e .median)
+  pub sigma : SmallerThan (2 ^ 53) (e .sigma)
+
+abbrev pub SmallAnswer : Answer → Type 0
+SmallAnswer (A.Enclosed e) = SmallEnclosure e
+SmallAnswer (A.Refused k) = Unit {0}
+
+-- the format of a host's doubles
+abbrev pub hostFormat : Format
+hostFormat = binary64
+
+abbrev pub doubleOf : ℤ → Float
+doubleOf z = ofInt hostFormat z
+
+unfoldable pub doublesOf : Enclosure → Doubles
+doublesOf e = record {
+  «median_low» = doubleOf (e .median .low);
+  «median_high» = doubleOf (e .median .high);
+  «sigma_low» = doubleOf (e .sigma .low);
+  «sigma_high» = doubleOf (e .sigma .high);
+}
+
+unfoldable pub inDoubles : Answer → DoublesAnswer
+inDoubles (A.Enclosed e) = D.Enclosed (doublesOf e)
+inDoubles (A.Refused k) = D.Refused k

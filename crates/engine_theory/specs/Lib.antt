@@ -1,0 +1,4 @@
+pub mod Models
+pub mod Evaluation
+pub mod Promise
+pub mod Steps

@@ -1,0 +1,20 @@
+-- The fields of an accepted scenario are arguments of median and sigma.
+use Prim.Native.Nat.{ℕ, _<_}
+use Rattle.scenario_theory.specs.declared.Scenario.{Scenario}
+use Rattle.scenario_theory.specs.Refusal.{idriss}
+use Rattle.scenario_theory.specs.Rows.{rowCount}
+use Rattle.scenario_theory.proofs.RefusalLaws.{Within}
+use Rattle.idriss_theory.specs.Promise.{MedianDomain, SigmaDomain}
+
+pub median-domain : {k : ℕ} (s : Scenario) → k < rowCount → Within idriss s →
+    MedianDomain k (s .magnitude) (s .distance) (s .velocity)
+median-domain s row w = record {
+  row = row;
+  magnitude-low = w .magnitude-low;
+  magnitude-high = w .magnitude-high;
+  near = w .distance-high;
+  slow = w .velocity-low;
+}
+
+pub sigma-domain : (s : Scenario) → Within idriss s → SigmaDomain (s .period)
+sigma-domain s w = record { tabled = w .period }

@@ -1,0 +1,6 @@
+pub mod Tables
+pub mod Median
+pub mod Sigma
+pub mod Periods
+pub mod Evaluation
+pub mod Promise

@@ -1,0 +1,4 @@
+pub mod Areas
+pub mod Walk
+pub mod TableTests
+pub mod Factors

@@ -1,0 +1,98 @@
+-- How a crate above shows an enclosure. Take each logarithm and root for a number that lies within the engine's ends,
+-- and show that the formula's value lies within the answer's: then the answer encloses the formula at every fineness.
+use mathlib.Core.Path.{_≡_, refl}
+use mathlib.Core.Bool.{cond}
+use Prim.Native.Nat.{ℕ, _^_, _≤_, _<_}
+use native.Mathlib.Nat.{le-of-lt, le-trans}
+use native.Mathlib.Decide.{decLe, decLt}
+use native.Mathlib.Omega.{arith}
+use borrow.Author.Tests.{le-leb, lt-leb}
+use lib.Dec.{leb}
+use lib.IntN.{pos}
+use Rattle.exact_theory.specs.Fraction.{Fraction, zeroQ, negQ}
+use Rattle.exact_theory.specs.Pair.{Pair, _∈_}
+use Rattle.exact_theory.specs.Logarithm.{lnPair}
+use Rattle.exact_theory.specs.Root.{rootValues}
+use Rattle.exact_theory.specs.Formula.{Formula, eval, ends, Encloses}
+use Rattle.exact_theory.proofs.FractionLaws.{≤q-refl, neg-anti}
+use Rattle.exact_theory.proofs.LogarithmLaws.{ln-proper, ln-flipped}
+use Rattle.exact_theory.proofs.Points.{Points, value, Picked, Sound, encloses-by}
+use Rattle.logarithm_theory.specs.Promise.{LnDomain, rootFineness}
+use Rattle.logarithm_theory.specs.Evaluation.{lnOf, rootOf}
+use Rattle.logarithm_theory.proofs.Laws.{lnOf-promise, rootOf-promise}
+
+-- the engine's ends of a logarithm
+abbrev pub lnEnds : ℕ → ℕ → Pair
+lnEnds a b = ends (pos (lnOf a b .low)) (pos (lnOf a b .high))
+
+-- what is known of the points: they lie within the engine's ends, and the logarithm of a/b is that of b/a, negated
+pub record Known (σ : Points) : Type 0 where
+  pub ln-within : {a b : ℕ} → LnDomain a b → σ .lnAt a b ∈ lnEnds a b
+  pub ln-negated : {a b : ℕ} → a < b → σ .lnAt a b ≡ negQ (σ .lnAt b a)
+  pub root-within : (X : ℕ) → σ .rootAt X ∈ rootValues rootFineness (rootOf X)
+
+-- ---- at fineness n such points are found
+
+-- for 1 ≤ b ≤ a, a point of the logarithm's pair, and of the engine's ends where it has any
+record Choice (n a b : ℕ) : Type 0 where
+  point : Fraction
+  exact : 1 ≤ b → b ≤ a → point ∈ lnPair n a b
+  within : LnDomain a b → point ∈ lnEnds a b
+
+choice : (n a b : ℕ) → 1 ≤ n → Choice n a b
+unfolding eval
+choice n a b g = go (decLe 1 b) (decLe b a) (decLt a (2 ^ 29))
+  where
+    go : Dec (1 ≤ b) → Dec (b ≤ a) → Dec (a < 2 ^ 29) → Choice n a b
+    go (yes p) (yes q) (yes r) =
+        let m = lnOf-promise (record { least = p; order = q; small = r }) .encloses .meets n g in
+        record { point = m .point; exact = λ _ _. m .right; within = λ _. m .left }
+    go (yes p) (yes q) (no r) = record {
+      point = lnPair n a b .low;
+      exact = λ _ _. record { from = ≤q-refl _; to = ln-proper (le-trans p q) p n g .ordered };
+      within = λ d. absurd (r (d .small));
+    }
+    go (yes p) (no q) r = record { point = zeroQ; exact = λ _ h. absurd (q h); within = λ d. absurd (q (d .order)) }
+    go (no p) q r = record { point = zeroQ; exact = λ h _. absurd (p h); within = λ d. absurd (p (d .least)) }
+
+module _ (n : ℕ) (g : 1 ≤ n) where
+  abbrev points : Points
+  points = record {
+    lnAt = λ a b. cond (leb b a) (choice n a b g .point) (negQ (choice n b a g .point));
+    rootAt = λ X. rootOf-promise X .encloses .meets n g .point;
+  }
+
+  -- b ≤ a
+  ordered : {a b : ℕ} → b ≤ a → points .lnAt a b ≡ choice n a b g .point
+  ordered {a} {b} h = simp (le-leb b a h)
+
+  turned : {a b : ℕ} → a < b → points .lnAt a b ≡ negQ (choice n b a g .point)
+  turned {a} {b} h = simp (lt-leb b a h)
+
+  known : Known points
+  known = record {
+    ln-within = λ {a} {b} d. rw (ordered (d .order)) (choice n a b g .within d);
+    ln-negated = λ {a} {b} h. rw (turned h, ordered (le-of-lt h)) refl;
+    root-within = λ X. rootOf-promise X .encloses .meets n g .left;
+  }
+
+  picked : Picked n points
+  unfolding eval
+  picked = record {
+    lnIn = λ a b ha hb. elim (decLe b a) [
+      | yes h ↦ rw (ordered h) (choice n a b g .exact hb h)
+      | no h ↦ below a b ha (omega arith)
+    ];
+    rootIn = λ X. rootOf-promise X .encloses .meets n g .right;
+  }
+    where
+      below : (a b : ℕ) → 1 ≤ a → a < b → points .lnAt a b ∈ lnPair n a b
+      below a b ha h =
+          let c = choice n b a g .exact ha (le-of-lt h) in
+          rw (turned h, ln-flipped h n) (record { from = neg-anti (c .to); to = neg-anti (c .from) })
+
+-- ---- the only way up
+
+pub encloses : {e : Formula} {P : Pair} → Sound e → ((σ : Points) → Known σ → value σ e ∈ P) → Encloses P e
+encloses s h =
+    encloses-by s (λ n g. record { points = points n g; picked = picked n g; held = h (points n g) (known n g) })

@@ -1,0 +1,6 @@
+pub mod Octave
+pub mod Newton
+pub mod Remainder
+pub mod Sum
+pub mod Laws
+pub mod Enclosure

@@ -1,0 +1,112 @@
+-- The logarithm as a sum: what is left after both factors, the factors' own logarithms, the octaves.
+use mathlib.Core.Path.{_≡_}
+use Prim.Native.Nat.{ℕ, zero, suc, _+_, _*_, _^_, _≤_}
+use native.Mathlib.Nat.{mul-le-mul-left, mul-le-mul-right, one-le-mul, le-trans, mul-one, two-pow-succ}
+use native.Mathlib.Omega.{arith}
+use lib.Pow.{pow-pos}
+use Rattle.exact_theory.proofs.LogarithmLaws.{Bounds, bounds-wider, bounds-same, bounds-plus, bounds-times, bounds-over}
+use Rattle.logarithm_tables_theory.specs.declared.Factor.{Factor}
+use Rattle.logarithm_tables_theory.specs.Tables.{ln2, coarseAt}
+use Rattle.logarithm_tables_theory.proofs.Areas.{bounds-rounded}
+use Rattle.logarithm_tables_theory.proofs.Walk.{U}
+use Rattle.logarithm_tables_theory.proofs.Factors.{Coarse, Fine, coarse-at, coarse-entry, fine-at}
+use Rattle.logarithm_theory.specs.declared.Scaled.{Scaled}
+use Rattle.logarithm_theory.specs.Promise.{LnDomain}
+use Rattle.logarithm_theory.specs.Evaluation.{Mantissa, NearOne, nearOneOf, mantissaLnOf, scaledOf}
+use Rattle.logarithm_theory.proofs.Remainder.{near-one, near-small}
+use Rattle.logarithm_theory.proofs.Octave.{Scales, scales}
+
+-- what both factors come to
+pub near : {w : ℕ} {f : Factor} → Fine w f → NearOne (w * f .by)
+near l = record { least = l .least; most = omega arith }
+
+-- ---- the mantissa, by the chain c f y, 2^61, 2^47 f, c f 2^35
+
+module _ {y : ℕ} {c f : Factor} (m : Mantissa y) (k : Coarse y c) (l : Fine (y * c .by) f) where
+  second-order : 2 ^ 47 * f .by ≤ 2 ^ 61
+  second-order = omega arith
+
+  last-order : c .by * f .by * 2 ^ 35 ≤ 2 ^ 47 * f .by
+  last-order = omega (arith, mul-le-mul-right (f .by) (k .up))
+
+  brought : let r : ℕ = nearOneOf (y * c .by * f .by) in
+      Bounds U (c .logarithm + f .logarithm + r) (c .logarithm + f .logarithm + r + 89) y (2 ^ 35)
+  brought =
+      bounds-over (c .by * f .by) (one-le-mul (k .some) (l .some)) (omega arith) (m .least)
+      (bounds-wider U _ _ (omega arith) (omega arith) (omega arith) (omega arith)
+      (bounds-plus U {x = nearOneOf (y * c .by * f .by)} {y = nearOneOf (y * c .by * f .by) + 64} (omega arith)
+      (le-trans last-order second-order) (rw first (l .least)) (rw first (near-one (near l)))
+      (bounds-plus U (omega arith) last-order second-order (bounds-times (2 ^ 47) (omega arith) (l .entry))
+      (rw (third, last) at
+      (bounds-times (2 ^ 35 * f .by) (one-le-mul {a = 2 ^ 35} (omega arith) (l .some)) (k .entry))))))
+    where
+      first : c .by * f .by * y ≡ y * c .by * f .by
+      first = omega arith
+
+      third : 2 ^ 35 * f .by * 4096 ≡ 2 ^ 47 * f .by
+      third = omega arith
+
+      last : 2 ^ 35 * f .by * c .by ≡ c .by * f .by * 2 ^ 35
+      last = omega arith
+
+-- what the code rests on, and the bounds, at the tables' entries
+pub record MantissaLn (y : ℕ) : Type 0 where
+  pub bounds : Bounds U (mantissaLnOf y) (mantissaLnOf y + 89) y (2 ^ 35)
+  pub small : mantissaLnOf y ≤ 5_680_000_000_000
+
+pub mantissa-ln : {y : ℕ} → Mantissa y → MantissaLn y
+unfolding mantissaLnOf
+mantissa-ln {y} m =
+    let k = coarse-at y (m .least) (m .most) in
+    let l = fine-at _ (k .least) (k .most) in
+    record { bounds = brought m k l; small = omega (arith, near-small (near l)) }
+
+-- ---- k octaves
+
+one-octave : Bounds U ln2 (ln2 + 23) 2 1
+unfolding coarseAt
+one-octave = bounds-over 2048 (omega arith) (omega arith) (omega arith) (coarse-entry 64 (omega arith))
+
+octaves : (k : ℕ) → Bounds U (k * ln2) (k * (ln2 + 23)) (2 ^ k) 1
+octaves zero = bounds-same (omega arith) (omega arith)
+octaves (suc k) =
+    rw twice (bounds-wider U _ _ (omega arith) (omega arith) (omega arith) (omega arith)
+    (bounds-plus U (omega arith) (pow-pos k) (omega arith)
+    (rw (mul-one (2 ^ k)) at (bounds-times (2 ^ k) (pow-pos k) one-octave)) (octaves k)))
+  where
+    twice : 2 ^ suc k ≡ 2 ^ k * 2
+    twice = omega (arith, two-pow-succ k)
+
+-- ---- a/b, by the chain 2^35 a, b 2^k y, b 2^k 2^35, 2^35 b
+
+module _ {a b : ℕ} (d : LnDomain a b) (s : Scaled) (w : Scales a b s) where
+  abbrev base : ℕ
+  base = b * 2 ^ s .octave
+
+  base-some : 1 ≤ b * 2 ^ s .octave
+  base-some = one-le-mul (d .least) (pow-pos (s .octave))
+
+  added : let x : ℕ = s .octave * ln2 + mantissaLnOf (s .mantissa) in Bounds U x (x + 23 * s .octave + 209) a b
+  added =
+      let y : ℕ = s .mantissa in
+      let m = w .normal .mantissa in
+      let n = mantissa-ln m in
+      bounds-over (2 ^ 35) (omega arith) (d .least) (d .order)
+      (bounds-wider U _ _ (omega arith) (omega arith) (omega arith) (omega arith)
+      (bounds-plus U (omega arith) (le-trans third (mul-le-mul-left base (m .least))) (w .low)
+      (bounds-rounded U 120 base y (2 ^ 35 * a) (omega arith) base-some (omega arith) (omega arith) (w .low) (w .high))
+      (bounds-plus U (omega arith) third (mul-le-mul-left base (m .least)) (bounds-times base base-some (n .bounds))
+      (rw (top, bottom) at (bounds-times (2 ^ 35 * b) (omega arith) (octaves (s .octave)))))))
+    where
+      third : 2 ^ 35 * b ≤ b * 2 ^ s .octave * 2 ^ 35
+      third = omega (arith, mul-le-mul-left b (pow-pos (s .octave)))
+
+      top : 2 ^ 35 * b * 2 ^ s .octave ≡ b * 2 ^ s .octave * 2 ^ 35
+      top = omega arith
+
+      bottom : 2 ^ 35 * b * 1 ≡ 2 ^ 35 * b
+      bottom = omega arith
+
+pub total : {a b : ℕ} → LnDomain a b → let s : Scaled = scaledOf a b in
+    let x : ℕ = s .octave * ln2 + mantissaLnOf (s .mantissa) in Bounds U x (x + 23 * s .octave + 209) a b
+total {a} {b} d = added d (scaledOf a b) (scales d)

@@ -1,0 +1,1 @@
+// Products and sums of what lies between two ends, rounded outward: definitions and laws. There is no code.

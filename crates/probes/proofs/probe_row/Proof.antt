@@ -1,0 +1,15 @@
+-- `probe_row` meets its contract.
+use mathlib.Core.Path.{_∙_}
+use borrow.Author.Needs.{needs}
+use Rattle.engine_theory.proofs.RowLaws.{first-row, second-row}
+use Rattle.probes.proofs.probe_row.Statement.{statement}
+use Rattle.probes.proofs.probe_row.Tie as tie
+
+pub probe-row-spec : {M : Type 1} → statement M
+probe-row-spec =
+    tie.close
+    (tie.spec
+    (λ c κs. search needs)
+    (λ c. c .idriss-row .ensures ∙ first-row _ _ (c .before .if1 .taken))
+    (λ c κs. search needs)
+    (λ c. c .boore-atkinson-row .ensures ∙ second-row _ _ (c .before .if1 .left)))

@@ -1,0 +1,70 @@
+-- What the probes answer, for any numbers: the ends of logarithm, root and models where the arguments are taken, and
+-- none elsewhere.
+use mathlib.Core.Bool.{Bool, false, cond}
+use Prim.Native.Nat.{ℕ, _-_, _^_}
+use lib.Dec.{eqb, leb, ltb}
+use lib.IntN.{pos}
+use Rattle.signed_theory.specs.declared.Ends.{Ends}
+use Rattle.logarithm_theory.specs.Evaluation.{lnOf, rootOf}
+use Rattle.scenario_theory.specs.declared.Scenario.{Scenario}
+use Rattle.scenario_theory.specs.Refusal.{refusalOf}
+use Rattle.scenario_theory.specs.Rows.{rowCount}
+use Rattle.idriss_theory.specs.Tables.{rowAt}
+use Rattle.idriss_theory.specs.Evaluation.{medianOf, sigmaOf}
+use Rattle.boore_atkinson_theory.specs.Tables as tables
+use Rattle.boore_atkinson_theory.specs.Evaluation as second
+use Rattle.engine_theory.specs.Evaluation.{scenarioWith}
+use Rattle.probes.specs.declared.Probed.{Probed}
+use Rattle.probes.specs.declared.ProbedEnds.{ProbedEnds}
+
+-- ---- logarithm and root
+
+abbrev pub noLn : Probed
+noLn = record { low = 1; high = 0 }
+
+-- the ends of ln(a/b), unless b is 0, a is below b or a is 2^29 or more
+unfoldable pub probedLn : ℕ → ℕ → Probed
+probedLn a b =
+    cond (eqb b 0) noLn
+    (cond (ltb a b) noLn (cond (leb 536_870_912 a) noLn (record { low = lnOf a b .low; high = lnOf a b .high })))
+
+-- the root's lower value at fineness 131072; where x is 2^29 or more, 2^64 − 1
+unfoldable pub probedRoot : ℕ → ℕ
+probedRoot x = cond (leb 536_870_912 x) (2 ^ 64 - 1) (rootOf x)
+
+-- ---- the models
+
+abbrev pub noEnds : ProbedEnds
+noEnds = record { low = pos 1; high = pos 0 }
+
+abbrev pub told : Ends → ProbedEnds
+told e = record { low = e .low; high = e .high }
+
+-- k is a row, and s is accepted
+unfoldable pub isTaken : ℕ → Scenario → Bool
+isTaken k s = cond (leb rowCount k) false (eqb (refusalOf s) 0)
+
+-- e where they are
+abbrev pub whereTaken : ℕ → Scenario → Ends → ProbedEnds
+whereTaken k s e = cond (isTaken k s) (told e) noEnds
+
+unfoldable pub probedIdriss : ℕ → ℕ → ℕ → ℕ → ℕ → ℕ → ProbedEnds
+probedIdriss table k m d v mechanism =
+    whereTaken k (scenarioWith 1 m d v mechanism 0) (medianOf (rowAt (eqb table 3) k) m d v mechanism)
+
+unfoldable pub probedIdrissSigma : ℕ → ℕ → ProbedEnds
+probedIdrissSigma period m = whereTaken 0 (scenarioWith 1 m 0 7_600 0 period) (sigmaOf period m)
+
+unfoldable pub probedBooreAtkinson : ℕ → ℕ → ℕ → ℕ → ℕ → ProbedEnds
+probedBooreAtkinson k m d v mechanism =
+    whereTaken k (scenarioWith 2 m d v mechanism 0) (second.medianOf (tables.rowAt k) m d v mechanism)
+
+unfoldable pub probedBooreAtkinsonSigma : ℕ → ℕ → ProbedEnds
+probedBooreAtkinsonSigma k mechanism =
+    whereTaken k (scenarioWith 2 700 0 7_600 mechanism 0) (second.sigmaOf (tables.totalAt k) mechanism)
+
+unfoldable pub probedNonlinear : ℕ → ℕ → ℕ → ℕ → ProbedEnds
+probedNonlinear k v low high =
+    cond (ltb high low) noEnds
+    (whereTaken k (scenarioWith 2 700 0 v 0 0)
+    (second.nonlinearEndsOf (tables.rowAt k .site) v (record { low = low; high = high })))

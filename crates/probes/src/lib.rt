@@ -1,0 +1,223 @@
+// The leaves for tests outside Rattle: functions on any numbers and bytes, which a C program can call.
+ghost use mathlib.Core.Path.{_≡_};
+ghost use Prim.Native.Nat.{_^_, _<_};
+ghost use lib.ListN.{length, getD};
+ghost use Rattle.signed_theory.specs.Evaluation.{SmallerThan};
+ghost use Rattle.record_theory.specs.Outcome.{restOf};
+ghost use Rattle.idriss_theory.specs.Tables.{takesTable3};
+ghost use Rattle.engine_theory.specs.Evaluation.{scenarioWith, rowOf};
+ghost use Rattle.probes.specs.Probe.{isTaken, probedLn, probedRoot, noEnds, told, probedIdriss};
+ghost use Rattle.probes.specs.Probe.{probedIdrissSigma, probedBooreAtkinson, probedBooreAtkinsonSigma};
+ghost use Rattle.probes.specs.Probe.{probedNonlinear};
+use scenario_rows::NO_ROW;
+use scenario_theory::Scenario;
+use signed_theory::Ends;
+
+// The ends of a logarithm. Where there are none, low is 1 and high 0.
+#[repr(C)]
+pub struct Probed {
+    pub low: u64,
+    pub high: u64,
+}
+
+// The ends of an answer. Where there are none, low is 1 and high 0.
+#[repr(C)]
+pub struct ProbedEnds {
+    pub low: i64,
+    pub high: i64,
+}
+
+#[no_mangle]
+pub extern "C" fn probe_ln(a: u64, b: u64) -> Probed
+    ensures { λ r. ⌜ r ≡ probedLn a b ⌝ }
+{
+    if b == 0 {
+        return Probed { low: 1, high: 0 };
+    }
+    if a < b {
+        return Probed { low: 1, high: 0 };
+    }
+    if 536_870_912 <= a {
+        return Probed { low: 1, high: 0 };
+    }
+    let e = logarithm::ln(a, b);
+    Probed {
+        low: e.low,
+        high: e.high,
+    }
+}
+
+// The root of x is from r/131072 to (r + 1)/131072. Where x is too large, r is 2^64 − 1.
+#[no_mangle]
+pub extern "C" fn probe_root(x: u64) -> u64
+    ensures { λ r. ⌜ r ≡ probedRoot x ⌝ }
+{
+    if 536_870_912 <= x {
+        return 18_446_744_073_709_551_615;
+    }
+    logarithm::root(x)
+}
+
+// The row of a period in the tables of Idriss for model 1, of Boore-Atkinson for any other.
+#[no_mangle]
+pub extern "C" fn probe_row(model: u8, period: u16) -> usize
+    ensures { λ r. ⌜ r ≡ rowOf model period ⌝ }
+{
+    if model == 1 {
+        return scenario_rows::idriss_row(period);
+    }
+    scenario_rows::boore_atkinson_row(period)
+}
+
+// How many bytes the rest of the record at the front of s has.
+#[no_mangle]
+pub extern "C" fn probe_rest_length(s: &[u8]) -> usize
+    ensures { λ r. ⌜ r ≡ length (restOf (now (s .entry))) ⌝ }
+{
+    record_reading::rest(s).len()
+}
+
+fn byte_at(s: &[u8], i: usize) -> u8
+    ensures { λ r. ⌜ r ≡ getD (now (s .entry)) i 0 ⌝ }
+{
+    if i < s.len() {
+        return s[i];
+    }
+    0
+}
+
+// The byte at a place of the rest, 0 past its end.
+#[no_mangle]
+pub extern "C" fn probe_rest_byte(s: &[u8], i: usize) -> u8
+    ensures { λ r. ⌜ r ≡ getD (restOf (now (s .entry))) i 0 ⌝ }
+{
+    byte_at(record_reading::rest(s), i)
+}
+
+fn none() -> ProbedEnds
+    ensures { λ r. ⌜ r ≡ noEnds ⌝ }
+{
+    ProbedEnds { low: 1, high: 0 }
+}
+
+fn tell(e: Ends) -> ProbedEnds
+    requires { ⌜ SmallerThan (2 ^ 53) e ⌝ }
+    ensures { λ r. ⌜ r ≡ told e ⌝ }
+{
+    ProbedEnds {
+        low: e.low,
+        high: e.high,
+    }
+}
+
+// Whether k is a row and a scenario of these fields is accepted.
+fn taken(
+    k: usize,
+    model: u8,
+    magnitude: u16,
+    distance: u16,
+    velocity: u16,
+    mechanism: u8,
+    period: u16,
+) -> bool
+    ensures { λ r. ⌜ r ≡ isTaken k (scenarioWith model magnitude distance velocity mechanism period) ⌝ }
+{
+    if NO_ROW <= k {
+        return false;
+    }
+    let s = Scenario {
+        model,
+        magnitude,
+        distance,
+        velocity,
+        mechanism,
+        period,
+    };
+    scenario::refusal(s) == 0
+}
+
+// Which of Idriss's tables a magnitude takes: 1 for Table 3, 0 for Table 2.
+#[no_mangle]
+pub extern "C" fn probe_takes_table_3(magnitude: u16) -> bool
+    ensures { λ r. ⌜ r ≡ takesTable3 magnitude ⌝ }
+{
+    idriss::takes_table_3(magnitude)
+}
+
+// The median of Idriss by row k of a table, 3 or any other number for Table 2.
+#[no_mangle]
+pub extern "C" fn probe_idriss(
+    table: u8,
+    k: usize,
+    magnitude: u16,
+    rupture_distance: u16,
+    velocity: u16,
+    mechanism: u8,
+) -> ProbedEnds
+    ensures { λ r. ⌜ r ≡ probedIdriss table k magnitude «rupture_distance» velocity mechanism ⌝ }
+{
+    if taken(k, 1, magnitude, rupture_distance, velocity, mechanism, 0) {
+        return tell(idriss::median(
+            table == 3,
+            k,
+            magnitude,
+            rupture_distance,
+            velocity,
+            mechanism,
+        ));
+    }
+    none()
+}
+
+// Sigma of Idriss.
+#[no_mangle]
+pub extern "C" fn probe_idriss_sigma(period: u16, magnitude: u16) -> ProbedEnds
+    ensures { λ r. ⌜ r ≡ probedIdrissSigma period magnitude ⌝ }
+{
+    if taken(0, 1, magnitude, 0, 7_600, 0, period) {
+        return tell(idriss::sigma(period, magnitude));
+    }
+    none()
+}
+
+// The median of Boore-Atkinson by row k.
+#[no_mangle]
+pub extern "C" fn probe_boore_atkinson(
+    k: usize,
+    magnitude: u16,
+    projection_distance: u16,
+    velocity: u16,
+    mechanism: u8,
+) -> ProbedEnds
+    ensures { λ r. ⌜ r ≡ probedBooreAtkinson k magnitude «projection_distance» velocity mechanism ⌝ }
+{
+    if taken(k, 2, magnitude, projection_distance, velocity, mechanism, 0) {
+        return tell(boore_atkinson::median(k, magnitude, projection_distance, velocity, mechanism));
+    }
+    none()
+}
+
+// Sigma of Boore-Atkinson by row k.
+#[no_mangle]
+pub extern "C" fn probe_boore_atkinson_sigma(k: usize, mechanism: u8) -> ProbedEnds
+    ensures { λ r. ⌜ r ≡ probedBooreAtkinsonSigma k mechanism ⌝ }
+{
+    if taken(k, 2, 700, 0, 7_600, mechanism, 0) {
+        return tell(boore_atkinson::sigma(k, mechanism));
+    }
+    none()
+}
+
+// The nonlinear part of Boore-Atkinson by row k, where −p lies from low to high.
+#[no_mangle]
+pub extern "C" fn probe_nonlinear(k: usize, velocity: u16, low: u64, high: u64) -> ProbedEnds
+    ensures { λ r. ⌜ r ≡ probedNonlinear k velocity low high ⌝ }
+{
+    if high < low {
+        return none();
+    }
+    if taken(k, 2, 700, 0, velocity, 0, 0) {
+        return tell(boore_atkinson::nonlinear(k, velocity, logarithm_theory::Ends { low, high }));
+    }
+    none()
+}

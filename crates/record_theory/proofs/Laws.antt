@@ -1,0 +1,87 @@
+-- Reading and writing undo each other, for all scenarios and all bytes. Demand 2: "A record is read as the scenario its
+-- layout gives, an accepted scenario is written as its one record, and each undoes the other".
+use mathlib.Core.Path.{_≡_, refl, sym, ap, _∙_}
+use mathlib.Core.List.{List, _++_}
+use Prim.Native.Nat.{ℕ, _≤_}
+use native.Mathlib.Omega.{arith}
+use lib.ListN.{length, take, drop}
+use lib.Seq.{length-take-le}
+use Rattle.scenario_theory.specs.declared.Scenario.{Scenario}
+use Rattle.scenario_theory.specs.Refusal.{refusalOf}
+use Rattle.record_theory.specs.declared.Reading.the-variants.{Read}
+use Rattle.record_theory.specs.declared.Writing.the-variants.{Length}
+use Rattle.record_theory.specs.Layout.{Bytes, recordOf}
+use Rattle.record_theory.specs.Outcome.{mapIn, readOf, restOf, writeOf, lentAfter}
+use Rattle.record_theory.proofs.FieldLaws.{length-is}
+use Rattle.record_theory.proofs.ReadBack.{read-written, rest-written}
+use Rattle.record_theory.proofs.ReadingLaws.{read-as}
+use Rattle.record_theory.proofs.RecordBytes.{record-bytes}
+use Rattle.record_theory.proofs.WriteBack.{record-read}
+use Rattle.record_theory.proofs.WritingLaws.{is-written, written-as}
+
+-- ---- an accepted scenario has a record: bytes, read as the scenario whatever follows them, and written where they fit
+
+module _ (x : Scenario) (e : refusalOf x ≡ 0) where
+  pub record-is-bytes : Bytes (recordOf x)
+  record-is-bytes = record-bytes x e
+
+  pub record-is-read : (s : List ℕ) → readOf (recordOf x ++ s) ≡ Read x (length (recordOf x))
+  record-is-read s = read-written x s e
+
+  pub record-is-written : (lent : List ℕ) → length (recordOf x) ≤ length lent →
+      (writeOf x lent ≡ Length (length (recordOf x))) ×
+      (lentAfter x lent ≡ recordOf x ++ drop (length (recordOf x)) lent)
+  record-is-written lent l =
+      let w = is-written x lent e l in
+      (sym (w .answer), sym (w .bytes))
+
+-- ---- what is written is read back as the scenario, and the rest is untouched
+
+module _ (x : Scenario) (lent : List ℕ) (n : ℕ) (e : writeOf x lent ≡ Length n) where
+  pub written-is-read : readOf (lentAfter x lent) ≡ Read x n
+  written-is-read =
+      let w = written-as x lent n e in
+      rw (w .bytes, read-written x (drop n lent) (w .accepted), w .size) refl
+
+  pub later-is-rest : restOf (lentAfter x lent) ≡ drop n lent
+  later-is-rest =
+      let w = written-as x lent n e in
+      rw (w .bytes) (rest-written x (drop n lent) (w .accepted))
+
+-- ---- what is read is an accepted scenario, and is written as exactly the bytes that were read
+
+module _ (s : List ℕ) (h : Bytes s) (x : Scenario) (n : ℕ) (e : readOf s ≡ Read x n) where
+  pub read-is-accepted : refusalOf x ≡ 0
+  read-is-accepted =
+      let r = read-as s x n e in
+      rw (r .scenario) at (r .passes .taken)
+
+  pub read-is-record : recordOf x ≡ take n s
+  read-is-record =
+      let r = read-as s x n e in
+      rw (← r .scenario, ← r .size) (record-read s h (r .passes))
+
+  record-size : length (recordOf x) ≡ n
+  record-size =
+      let r = read-as s x n e in
+      ap length read-is-record ∙ length-take-le n s (omega arith)
+
+  pub read-is-written : (lent : List ℕ) → n ≤ length lent →
+      (writeOf x lent ≡ Length n) × (lentAfter x lent ≡ take n s ++ drop n lent)
+  read-is-written lent l =
+      let w = is-written x lent read-is-accepted (rw record-size l) in
+      (sym (rw record-size at (w .answer)), sym (rw (record-size, read-is-record) at (w .bytes)))
+
+-- ---- a record that is read has six bytes or more, and is within the bytes
+
+pub read-size : (s : List ℕ) (x : Scenario) (n : ℕ) → readOf s ≡ Read x n → (6 ≤ n) × (n ≤ length s)
+read-size s x n e =
+    let r = read-as s x n e in
+    let front = r .passes .front in
+    (omega (arith, length-is (mapIn s) (front .passes)), omega arith)
+
+-- ---- and so an accepted scenario has one record: any bytes that are read as it are those
+
+pub one-record : (s t : List ℕ) → Bytes s → Bytes t → (x : Scenario) (n k : ℕ) → readOf s ≡ Read x n →
+    readOf t ≡ Read x k → take n s ≡ take k t
+one-record s t h g x n k e f = sym (read-is-record s h x n e) ∙ read-is-record t g x k f

@@ -1,0 +1,12 @@
+// The line of an answer, and the last line, as bytes: definitions and laws. There is no code.
+
+// A number by its sign and its size.
+pub struct Word {
+    pub minus: bool,
+    pub size: u64,
+}
+
+pub struct Words {
+    pub low: Word,
+    pub high: Word,
+}

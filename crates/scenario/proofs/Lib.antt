@@ -1,4 +1,0 @@
-pub mod CheckLaws
-pub mod ListLaws
-pub mod RefusalLaws
-pub mod RowLaws

@@ -1,0 +1,114 @@
+-- The checks of a program are those of a model's column, one by one; and what a scenario that is not refused is like.
+use mathlib.Core.Path.{_≡_, refl}
+use mathlib.Core.Bool.{true≢false, Bool, true, false, not, cond, _||_}
+use mathlib.Core.List.{_∷_}
+use mathlib.Core.Logic.{_⊎_, inl, inr}
+use Prim.Native.Nat.{ℕ, _≤_}
+use native.Mathlib.Omega.{arith}
+use borrow.Author.Needs.{needs}
+use borrow.Author.Tests.{eqb-true, ltb-false, not-false}
+use lib.Dec.{T, eqb, ltb}
+use Rattle.toolbox_theory.specs.Lists.{among}
+use Rattle.toolbox_theory.proofs.ListLaws.{upTo, at-most}
+use Rattle.scenario_theory.specs.declared.Scenario.{Scenario}
+use Rattle.scenario_theory.specs.Checks.{Range, beyond, _when_, _otherwise_}
+use Rattle.scenario_theory.specs.Refusal.{Limits, idriss, booreAtkinson, refusalBy, refusalOf}
+use Rattle.scenario_theory.proofs.CheckLaws.{none-of, not-when}
+
+pub by-limits : (m : Limits) (s : Scenario) {r : ℕ} {two three four five six : Bool} →
+    r ≡ (2 when two otherwise 3 when three otherwise 4 when four otherwise 5 when five otherwise 6 when six) →
+    two ≡ beyond (m .magnitude) (s .magnitude) → three ≡ beyond (m .distance) (s .distance) →
+    four ≡ beyond (m .velocity) (s .velocity) → five ≡ not (among (m .mechanisms) (s .mechanism)) →
+    six ≡ not (among (0 ∷ m .periods) (s .period)) → r ≡ refusalBy m s
+unfolding refusalBy
+by-limits m s e two three four five six = rw (e, two, three, four, five, six)
+
+-- ---- a scenario that is not refused is within the limits of its model
+
+pub record Within (m : Limits) (s : Scenario) : Type 0 where
+  pub magnitude-low : m .magnitude .low ≤ s .magnitude
+  pub magnitude-high : s .magnitude ≤ m .magnitude .high
+  pub distance-high : s .distance ≤ m .distance .high
+  pub velocity-low : m .velocity .low ≤ s .velocity
+  pub velocity-high : s .velocity ≤ m .velocity .high
+  pub mechanism : among (m .mechanisms) (s .mechanism) ≡ true
+  pub period : among (0 ∷ m .periods) (s .period) ≡ true
+
+not-beyond : (r : Range) (x : ℕ) → beyond r x ≡ false → (r .low ≤ x) × (x ≤ r .high)
+not-beyond r x e = go (ltb x (r .low)) (ltb (r .high) x) refl refl e
+  where
+    go : (a b : Bool) → ltb x (r .low) ≡ a → ltb (r .high) x ≡ b → (a || b) ≡ false → (r .low ≤ x) × (x ≤ r .high)
+    go true b p q e = absurd (true≢false e)
+    go false true p q e = absurd (true≢false e)
+    go false false p q e = (ltb-false x (r .low) p, ltb-false (r .high) x q)
+
+pub within : (m : Limits) (s : Scenario) → refusalBy m s ≡ 0 → Within m s
+unfolding refusalBy
+within m s e =
+    let two = none-of (2 when beyond (m .magnitude) (s .magnitude)) _ e in
+    let three = none-of (3 when beyond (m .distance) (s .distance)) _ (two .1) in
+    let four = none-of (4 when beyond (m .velocity) (s .velocity)) _ (three .1) in
+    let five = none-of (5 when not (among (m .mechanisms) (s .mechanism))) _ (four .1) in
+    let magnitude = not-beyond (m .magnitude) (s .magnitude) (not-when 1 _ (two .0)) in
+    let distance = not-beyond (m .distance) (s .distance) (not-when 2 _ (three .0)) in
+    let velocity = not-beyond (m .velocity) (s .velocity) (not-when 3 _ (four .0)) in
+    record {
+      magnitude-low = magnitude .0;
+      magnitude-high = magnitude .1;
+      distance-high = distance .1;
+      velocity-low = velocity .0;
+      velocity-high = velocity .1;
+      mechanism = not-false _ (not-when 4 _ (five .0));
+      period = not-false _ (not-when 5 _ (five .1));
+    }
+
+-- its model is 1 or 2
+pub of-model : (s : Scenario) → refusalOf s ≡ 0 →
+    ((s .model ≡ 1) × Within idriss s) ⊎ ((s .model ≡ 2) × Within booreAtkinson s)
+unfolding refusalOf
+of-model s e = go (eqb (s .model) 1) (eqb (s .model) 2) refl refl e
+  where
+    go : (a b : Bool) → eqb (s .model) 1 ≡ a → eqb (s .model) 2 ≡ b →
+        cond a (refusalBy idriss s) (cond b (refusalBy booreAtkinson s) 1) ≡ 0 →
+        ((s .model ≡ 1) × Within idriss s) ⊎ ((s .model ≡ 2) × Within booreAtkinson s)
+    go true b p q e = inl (eqb-true (s .model) 1 p, within idriss s e)
+    go false true p q e = inr (eqb-true (s .model) 2 q, within booreAtkinson s e)
+    go false false p q e = absurd (omega arith)
+
+pub within-idriss : (s : Scenario) → s .model ≡ 1 → refusalOf s ≡ 0 → Within idriss s
+within-idriss s m e = elim (of-model s e) [ inl p ↦ p .1 | inr p ↦ absurd (omega arith) ]
+
+pub within-boore-atkinson : (s : Scenario) → s .model ≡ 2 → refusalOf s ≡ 0 → Within booreAtkinson s
+within-boore-atkinson s m e = elim (of-model s e) [ inl p ↦ absurd (omega arith) | inr p ↦ p .1 ]
+
+-- and no number of it is greater than these
+pub record Sizes (s : Scenario) : Type 0 where
+  pub model : s .model ≤ 2
+  pub magnitude : s .magnitude ≤ 800
+  pub distance : s .distance ≤ 19_999
+  pub velocity : s .velocity ≤ 20_000
+  pub mechanism : s .mechanism ≤ 9
+  pub period : s .period ≤ 10_000
+
+-- no limit of a model is
+abbrev Small : Limits → Type 0
+Small m =
+    (m .magnitude .high ≤ 800) × ((m .distance .high ≤ 19_999) × ((m .velocity .high ≤ 20_000) ×
+    (T (upTo 9 (m .mechanisms)) × T (upTo 10_000 (0 ∷ m .periods)))))
+
+sizes-by : (m : Limits) (s : Scenario) → Small m → s .model ≤ 2 → Within m s → Sizes s
+sizes-by m s h k w =
+    record {
+      model = k;
+      magnitude = omega arith;
+      distance = omega arith;
+      velocity = omega arith;
+      mechanism = at-most 9 (m .mechanisms) (s .mechanism) (h .1 .1 .1 .0) (w .mechanism);
+      period = at-most 10_000 (0 ∷ m .periods) (s .period) (h .1 .1 .1 .1) (w .period);
+    }
+
+pub sizes : (s : Scenario) → refusalOf s ≡ 0 → Sizes s
+sizes s e = elim (of-model s e) [
+  | inl p ↦ sizes-by idriss s (search needs, (search needs, (search needs, (tt, tt)))) (omega arith) (p .1)
+  | inr p ↦ sizes-by booreAtkinson s (search needs, (search needs, (search needs, (tt, tt)))) (omega arith) (p .1)
+]

@@ -1,0 +1,70 @@
+-- Which scenarios each model takes, the number of the first check that a scenario fails, and the row of a period.
+-- Document 01, 'The scenario' and 'What is turned away'.
+use mathlib.Core.Bool.{not, cond}
+use mathlib.Core.List.{List, [], _∷_}
+use Prim.Native.Nat.{ℕ}
+use lib.Dec.{eqb}
+use Rattle.toolbox_theory.specs.Lists.{among, placeIn, _without_}
+use Rattle.scenario_theory.specs.declared.Scenario.{Scenario}
+use Rattle.scenario_theory.specs.Checks.{Range, _to_, beyond, _when_, _otherwise_}
+
+-- a model's column of the table in 'The scenario': magnitude in 0.01, distance in 0.01 km, velocity in 0.1 m/s, the
+-- codes of mechanisms, and the tabled periods in 0.001 s
+pub record Limits : Type 0 where
+  pub magnitude : Range
+  pub distance : Range
+  pub velocity : Range
+  pub mechanisms : List ℕ
+  pub periods : List ℕ
+
+-- "Idriss periods"
+abbrev pub idrissPeriods : List ℕ
+idrissPeriods =
+    10 ∷ 20 ∷ 30 ∷ 40 ∷ 50 ∷ 75 ∷ 100 ∷ 150 ∷ 200 ∷ 250 ∷ 300 ∷ 400 ∷ 500 ∷ 750 ∷ 1_000 ∷ 1_500 ∷ 2_000 ∷ 3_000 ∷
+    4_000 ∷ 5_000 ∷ 7_500 ∷ 10_000 ∷ []
+
+-- "Idriss (model 1)"; its distance is "to the rupture"
+abbrev pub idriss : Limits
+idriss =
+    record {
+      magnitude = 450 to 790;
+      distance = 0 to 17_500;
+      velocity = 4_500 to 20_000;
+      mechanisms = 0 ∷ 1 ∷ 2 ∷ 3 ∷ 4 ∷ [];
+      periods = idrissPeriods;
+    }
+
+-- "Boore-Atkinson (model 2)"; its distance is "to its surface projection", and it "has the same" periods "without 40"
+abbrev pub booreAtkinson : Limits
+booreAtkinson =
+    record {
+      magnitude = 500 to 800;
+      distance = 0 to 19_999;
+      velocity = 1_800 to 13_000;
+      mechanisms = 0 ∷ 1 ∷ 2 ∷ 3 ∷ 9 ∷ [];
+      periods = idrissPeriods without 40;
+    }
+
+-- 'What is turned away', 2 to 6: the first that applies to s by the limits of its model, 0 where none does
+unfoldable pub refusalBy : Limits → Scenario → ℕ
+refusalBy m s =
+    2 when beyond (m .magnitude) (s .magnitude) otherwise
+    3 when beyond (m .distance) (s .distance) otherwise
+    4 when beyond (m .velocity) (s .velocity) otherwise
+    5 when not (among (m .mechanisms) (s .mechanism)) otherwise
+    6 when not (among (0 ∷ m .periods) (s .period))
+
+-- and 1 to 6: 1 where the model is "neither 1 nor 2"
+unfoldable pub refusalOf : Scenario → ℕ
+refusalOf s =
+    cond (eqb (s .model) 1) (refusalBy idriss s) (cond (eqb (s .model) 2) (refusalBy booreAtkinson s) 1)
+
+-- the row of a period in Idriss's tables, counted from 0 at 0.01 s: "Period 0 uses the row 0.01" ('Idriss')
+unfoldable pub idrissRow : ℕ → ℕ
+idrissRow T = placeIn (idriss .periods) (cond (eqb T 0) 10 T)
+
+-- the row of a period in Boore-Atkinson's tables, counted from 0 at PGA, with the periods after it: "Period 0 uses the
+-- row PGA" ('Boore-Atkinson on rock'). The row PGV, which is printed before it, is left out: "Peak velocity .. lie
+-- outside it"
+unfoldable pub booreAtkinsonRow : ℕ → ℕ
+booreAtkinsonRow T = placeIn (0 ∷ booreAtkinson .periods) T

@@ -1,0 +1,17 @@
+// A scenario, the checks 1 to 6 and the rows of periods: the type, definitions and laws. There is no code.
+
+// The fields of document 01, 'The scenario', as whole numbers.
+pub struct Scenario {
+    // 1 Idriss, 2 Boore-Atkinson
+    pub model: u8,
+    // in 0.01
+    pub magnitude: u16,
+    // in 0.01 km: to the rupture for Idriss, to its surface projection for Boore-Atkinson
+    pub distance: u16,
+    // V_S30, in 0.1 m/s
+    pub velocity: u16,
+    // 0 strike-slip, 1 normal, 2 reverse, 3 reverse oblique, 4 other oblique, 9 unspecified
+    pub mechanism: u8,
+    // in 0.001 s; 0 is peak acceleration
+    pub period: u16,
+}

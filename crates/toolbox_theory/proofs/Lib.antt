@@ -1,0 +1,4 @@
+pub mod Whole
+pub mod Tests
+pub mod ListLaws
+pub mod Places

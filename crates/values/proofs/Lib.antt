@@ -1,3 +1,0 @@
-pub mod Constant
-pub mod Proved
-pub mod ShutOut

@@ -1,0 +1,141 @@
+-- Every row of the table of values holds: one test that antt computes over the table, and one lemma that turns it into
+-- each row's fact.
+use mathlib.Core.Path.{_≡_, refl}
+use mathlib.Core.Bool.{Bool, true, false, not, _&&_}
+use mathlib.Core.List.{List, [], _∷_}
+use mathlib.Core.Option.{Option, none, some}
+use Prim.Native.Nat.{ℕ, _^_, _≤_}
+use lib.IntN.{ℤ, pos, _+ℤ_}
+use lib.Dec.{T, eqb, leb, eqb→eq, leb→le}
+use Rattle.toolbox_theory.proofs.Tests.{both, every, every-at}
+use Rattle.exact_theory.specs.Fraction.{Fraction, _over_, leQ, zeroQ, negQ, _+q_, _*q_, _-q_}
+use Rattle.exact_theory.specs.Logarithm.{harmonic, lowerSum, upperSum, lnPair}
+use Rattle.exact_theory.specs.Root.{greatest, wholeRoot, rootValues, rootPair}
+use Rattle.exact_theory.specs.Formula.{Formula, stated, ln, root, _⊕_, _⊖_, _⊗_, _⊘_, ifUpTo, eval, Defined}
+use Rattle.exact_theory.proofs.AlgebraLaws.{≈q-trans}
+use Rattle.scenario_theory.specs.Refusal.{refusalBy, refusalOf, idrissRow, booreAtkinsonRow}
+use Rattle.record_theory.specs.Layout.{sizeOf, numbersOf, absentWritten}
+use Rattle.record_theory.specs.Outcome.{readingNumber, readingValues, scenarioIn, lengthBy, mapRefusal, readRefusal}
+use Rattle.record_theory.specs.Outcome.{readOf}
+use Rattle.idriss_theory.specs.Tables.{takesTable3, rowAt, rowFor}
+use Rattle.idriss_theory.specs.Median.{alphaPart, betaFactor}
+use Rattle.boore_atkinson_theory.specs.Tables.{rowAt as secondRowAt, rowFor as secondRowFor}
+use Rattle.boore_atkinson_theory.specs.SiteTerm.{bnl}
+use Rattle.boore_atkinson_theory.specs.SiteTerm as site
+use Rattle.values_theory.specs.Table.{Check, pairAt, cutAt, atEvery, fraction, reads, HasEnds, CutTo, Holds}
+use Rattle.values_theory.specs.Table.{AllHold, values}
+use Rattle.values_theory.proofs.Constant.{same, same-is, merged, zeroOver, positive, constant, Found, found}
+
+-- ---- the test of a row
+
+unfoldable pub sameList : List ℕ → List ℕ → Bool
+sameList [] [] = true
+sameList [] (y ∷ ys) = false
+sameList (x ∷ xs) [] = false
+sameList (x ∷ xs) (y ∷ ys) = eqb x y && sameList xs ys
+
+-- defined at n, in both branches
+unfoldable pub sound : ℕ → Formula → Bool
+sound n (stated x) = true
+sound n (ln a b) = leb 1 a && leb 1 b
+sound n (root X) = true
+sound n (e ⊕ f) = sound n e && sound n f
+sound n (e ⊖ f) = sound n e && sound n f
+sound n (e ⊗ f) = sound n e && sound n f
+sound n (e ⊘ f) = sound n e && (sound n f && not (leQ (eval n f .low) zeroQ))
+sound n (ifUpTo e f A B) = (sound n e && sound n f) && (sound n A && sound n B)
+
+-- a number is found, and it is x
+unfoldable pub matches : Option Fraction → Fraction → Bool
+matches none x = false
+matches (some y) x = same y x
+
+-- x in 10^-60, rounded down, is z
+unfoldable pub cutTo : Fraction → ℤ → Bool
+cutTo x z = leQ (z over (10 ^ 60)) x && not (leQ ((z +ℤ pos 1) over (10 ^ 60)) x)
+
+unfoldable pub passes : Check → Bool
+passes (pairAt n e x y) = (leb 1 n && sound n e) && (same (eval n e .low) x && same (eval n e .high) y)
+passes (cutAt n e x y) = (leb 1 n && sound n e) && (cutTo (eval n e .low) x && cutTo (eval n e .high) y)
+passes (atEvery e x) = matches (constant e) x
+passes (fraction x y) = same x y
+passes (reads s xs) = eqb (readingNumber (readOf s)) 0 && sameList (readingValues (readOf s)) xs
+
+-- ---- and what it shows
+
+same-list : (xs ys : List ℕ) → T (sameList xs ys) → xs ≡ ys
+unfolding sameList
+same-list [] [] t = refl
+same-list [] (y ∷ ys) t = absurd t
+same-list (x ∷ xs) [] t = absurd t
+same-list (x ∷ xs) (y ∷ ys) t =
+    let u = both (eqb x y) (sameList xs ys) t in
+    rw (eqb→eq x y (u .0), same-list xs ys (u .1))
+
+defined : (n : ℕ) (e : Formula) → T (sound n e) → Defined n e
+unfolding sound Defined
+defined n (stated x) t = tt
+defined n (ln a b) t = let u = both (leb 1 a) (leb 1 b) t in (leb→le 1 a (u .0), leb→le 1 b (u .1))
+defined n (root X) t = tt
+defined n (e ⊕ f) t = let u = both (sound n e) (sound n f) t in (defined n e (u .0), defined n f (u .1))
+defined n (e ⊖ f) t = let u = both (sound n e) (sound n f) t in (defined n e (u .0), defined n f (u .1))
+defined n (e ⊗ f) t = let u = both (sound n e) (sound n f) t in (defined n e (u .0), defined n f (u .1))
+defined n (e ⊘ f) t =
+    let u = both (sound n e) (sound n f && not (leQ (eval n f .low) zeroQ)) t in
+    let w = both (sound n f) (not (leQ (eval n f .low) zeroQ)) (u .1) in
+    (defined n e (u .0), defined n f (w .0), record { above = record { lt = w .1 } })
+defined n (ifUpTo e f A B) t =
+    let u = both (sound n e && sound n f) (sound n A && sound n B) t in
+    let v = both (sound n e) (sound n f) (u .0) in
+    let w = both (sound n A) (sound n B) (u .1) in
+    (defined n e (v .0), defined n f (v .1), λ r. defined n A (w .0), λ r. defined n B (w .1))
+
+has-ends : (n : ℕ) (e : Formula) (x y : Fraction) → T (same (eval n e .low) x && same (eval n e .high) y) →
+    HasEnds (eval n e) x y
+has-ends n e x y t =
+    let u = both (same (eval n e .low) x) (same (eval n e .high) y) t in
+    record { low = same-is (u .0); high = same-is (u .1) }
+
+is-cut : (x : Fraction) (z : ℤ) → T (cutTo x z) → CutTo x z
+unfolding cutTo
+is-cut x z t =
+    let u = both (leQ (z over (10 ^ 60)) x) (not (leQ ((z +ℤ pos 1) over (10 ^ 60)) x)) t in
+    record { from = record { le = u .0 }; below = record { lt = u .1 } }
+
+at-every : (e : Formula) (x : Fraction) (a : Option Fraction) → Found e a → T (matches a x) →
+    (n : ℕ) → 1 ≤ n → Defined n e × HasEnds (eval n e) x x
+unfolding matches
+at-every e x none f t n h = absurd t
+at-every e x (some y) f t n h =
+    let p = f n h in
+    (p .0, record { low = ≈q-trans (p .1 .low) (same-is t); high = ≈q-trans (p .1 .high) (same-is t) })
+
+pub holds : (c : Check) → T (passes c) → Holds c
+unfolding passes Holds Defined
+holds (pairAt n e x y) t =
+    let u = both (leb 1 n && sound n e) (same (eval n e .low) x && same (eval n e .high) y) t in
+    let v = both (leb 1 n) (sound n e) (u .0) in
+    (leb→le 1 n (v .0), defined n e (v .1), has-ends n e x y (u .1))
+holds (cutAt n e x y) t =
+    let u = both (leb 1 n && sound n e) (cutTo (eval n e .low) x && cutTo (eval n e .high) y) t in
+    let v = both (leb 1 n) (sound n e) (u .0) in
+    let w = both (cutTo (eval n e .low) x) (cutTo (eval n e .high) y) (u .1) in
+    (leb→le 1 n (v .0), defined n e (v .1), is-cut _ x (w .0), is-cut _ y (w .1))
+holds (atEvery e x) t = at-every e x (constant e) (found e) t
+holds (fraction x y) t = same-is t
+holds (reads s xs) t =
+    let u = both (eqb (readingNumber (readOf s)) 0) (sameList (readingValues (readOf s)) xs) t in
+    (eqb→eq (readingNumber (readOf s)) 0 (u .0), same-list (readingValues (readOf s)) xs (u .1))
+
+-- ---- all of them
+
+all-pass : T (every (λ k c. passes c) 0 values)
+unfolding passes matches constant merged zeroOver positive rowFor secondRowFor rowAt takesTable3 idrissRow
+    booreAtkinsonRow secondRowAt bnl alphaPart betaFactor _-q_ _*q_ sound same sameList eval lnPair lowerSum upperSum
+    harmonic rootPair rootValues wholeRoot greatest leQ zeroQ negQ _+q_ _over_ readOf readRefusal mapRefusal
+    scenarioIn lengthBy numbersOf sizeOf absentWritten refusalOf refusalBy
+all-pass = tt
+
+pub all-hold : AllHold values
+unfolding AllHold
+all-hold k h = holds _ (every-at (λ k c. passes c) _ 0 values all-pass k h)
