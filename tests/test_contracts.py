@@ -228,6 +228,14 @@ def law_below(root):
     return ['crates/made/proofs/same/Laws.antt:1: laws belong in a theory crate']
 
 
+def theory_on_code(root):
+    """A theory rests on a crate with functions."""
+    name = next(name for name in crates(root) if name.endswith('_theory'))
+    other = next(name for name in crates(root) if not name.endswith('_theory'))
+    change(root, 'crates.txt', f'{name}:', f'{name}: {other}')
+    return [f': {name} rests on {other}, which is no theory']
+
+
 def proof_in_theory(root):
     """A theory has the proof of a function."""
     pair(root, 'crates/made_theory/proofs/same/Proof.antt', '-- a proof\n')
@@ -293,8 +301,9 @@ def crates_unnamed(root):
 CASES = (promise_deleted, every_promise_deleted, leaf_without_promise, condition_added,
          width_changed, definition_changed, import_changed, module_added, function_not_listed,
          method_added, function_hidden, theory_with_function, definitions_beside_theory,
-         law_beside_theory, law_below, proof_in_theory, crate_closed, line_cut, line_removed, file_missing, definition_chosen, definition_missing,
-         crate_missing, crates_unnamed)
+         law_beside_theory, law_below, theory_on_code, proof_in_theory, crate_closed, line_cut,
+         line_removed, file_missing, definition_chosen, definition_missing, crate_missing,
+         crates_unnamed)
 
 # What is wrong with an edit, and the line and the words of the message.
 EDITS = (
