@@ -1,5 +1,6 @@
 -- `losses` meets its contract.
 use mathlib.Core.Path.{refl}
+use Prim.Native.Nat.{_*_, _≤_}
 use native.Mathlib.Nat.{mul-le-mul}
 use native.Mathlib.Omega.{arith}
 use borrow.Author.Needs.{needs}
@@ -8,25 +9,25 @@ use Rattle.idriss_theory.proofs.Bounds.{alpha-domain}
 use Rattle.idriss.proofs.losses.Statement.{statement}
 use Rattle.idriss.proofs.losses.Tie as tie
 
-alpha-sum-requires : tie.Need-alpha-sum-requires
-alpha-sum-requires c κs =
+alpha-takes : tie.Need-alpha-sum-requires
+alpha-takes c κs =
     let l = c .pre .0 in
     alpha-domain (l .alpha1-loss) (l .alpha2-loss) (l .alpha3-loss) (c .pre .2)
 
-mul-result : tie.Need-mul-result
-mul-result c = let p = c .before .before .pre in record { fits = omega (arith, mul-le-mul (p .0 .gamma) (p .3)) }
-
-mul-result-2 : tie.Need-mul-result-2
-mul-result-2 c = let p = c .before .before .pre in record { fits = omega (arith, mul-le-mul (p .0 .gamma) (p .3)) }
-
-add-result : tie.Need-add-result
-add-result c = let p = c .before .before .pre in record { fits = omega (arith, mul-le-mul (p .0 .gamma) (p .3)) }
+-- −γ R is at most 1.75
+part : (c : tie.Start) → c .args .r .9 * c .args .rupture-distance ≤ 100 * 17_500
+part c = mul-le-mul (c .pre .0 .gamma) (c .pre .3)
 
 returns : tie.Need-returns
 unfolding lossesOf
-returns c =
-    let p = c .before .before .pre in
-    (rw (c .before .alpha-sum .ensures .0) refl, omega (arith, mul-le-mul (p .0 .gamma) (p .3)))
+returns c = (rw (c .before .alpha-sum .ensures .0) refl, omega (arith, part (c .before .before)))
 
 pub losses-spec : {M : Type 1} → statement M
-losses-spec = tie.close (tie.spec alpha-sum-requires (λ c. search needs) mul-result mul-result-2 add-result returns)
+losses-spec =
+    tie.close
+    (tie.spec
+    alpha-takes (λ c. search needs)
+    (λ c. record { fits = omega (arith, part (c .before .before)) })
+    (λ c. record { fits = omega (arith, part (c .before .before)) })
+    (λ c. record { fits = omega (arith, part (c .before .before)) })
+    returns)
