@@ -3,7 +3,7 @@ use mathlib.Core.Path.{_≡_, refl, sym, _∙_, ap}
 use mathlib.Core.Logic.{_⊎_, inl, inr}
 use mathlib.Core.Bool.{Bool, true, false, cond}
 use Prim.Native.Nat.{ℕ, zero, suc, _+_, _*_, _<_, _≤_}
-use native.Mathlib.Nat.{mul-pos, mul-le-mul-right, le-of-mul-le-mul-right}
+use native.Mathlib.Nat.{mul-pos, one-le-mul, mul-le-mul-right, le-of-mul-le-mul-right}
 use native.Mathlib.Omega.{arith}
 use lib.IntN.{ℤ, pos, negsuc, _*ℤ_}
 use Rattle.toolbox_theory.specs.Whole.{up, down}
@@ -34,6 +34,26 @@ over-above z d h s = let i = over-Is z d h in record { value = omega arith; scal
 
 pub over-below : (z : ℤ) (d : ℕ) → 1 ≤ d → up z ≤ 0 → Is (z over d) 0 (down z) d
 over-below z d h s = let i = over-Is z d h in record { value = omega arith; scale = i .scale }
+
+-- the same of a fraction by its own numerator, where its denominator is known
+module _ (x : Fraction) {d : ℕ} (scale : x .den ≡ d) where
+  pub num-Is : Is x (up (x .num)) (down (x .num)) d
+  num-Is = record { value = omega arith; scale = scale }
+
+  pub num-above : down (x .num) ≤ 0 → Is x (up (x .num)) 0 d
+  num-above h = record { value = omega arith; scale = scale }
+
+  pub num-below : up (x .num) ≤ 0 → Is x 0 (down (x .num)) d
+  num-below h = record { value = omega arith; scale = scale }
+
+-- n/d has the numerator n
+pub num-natural : {x : Fraction} {n d : ℕ} → Is x n 0 d → up (x .num) ≡ n
+unfolding up down
+num-natural {x} {n} i = go (x .num) (i .value)
+  where
+    go : (z : ℤ) → up z + 0 ≡ down z + n → up z ≡ n
+    go (pos k) e = omega arith
+    go (negsuc k) e = absurd (omega arith)
 
 pub zero-Is : Is zeroQ 0 0 1
 unfolding zeroQ _over_ up down
@@ -235,8 +255,19 @@ zeroQ-add x =
 pub add-more : (x : Fraction) {y : Fraction} → zeroQ ≤q y → x ≤q x +q y
 add-more x h = ≤q-trans (≈q-≥q (zeroQ-add x)) (≤q-trans (add-comm-le _ _) (add-mono (≤q-refl x) h))
 
+above-step : (u v d n e : ℕ) → 0 < n → 1 ≤ d → u * (d * e) + (v * e + 0 * d) * d < (u * e + n * d) * d + v * (d * e)
+above-step u v d n e h k = omega (arith, one-le-mul h (one-le-mul k k))
+
+pub add-above : (x : Fraction) {y : Fraction} → zeroQ <q y → x <q x +q y
+add-above x {y} h =
+    let j = above-zero y h in
+    lt-of (is-self x) (add-Is (is-self x) (j .is)) (above-step _ _ (x .den) (j .n) (y .den) (j .some) (x .positive))
+
 pub neg-anti : {x y : Fraction} → x ≤q y → negQ y ≤q negQ x
 neg-anti {x} {y} h = le-of (neg-Is (is-self y)) (neg-Is (is-self x)) (omega (arith, le-as (is-self x) (is-self y) h))
+
+pub neg-below : {x y : Fraction} → x <q y → negQ y <q negQ x
+neg-below {x} {y} h = lt-of (neg-Is (is-self y)) (neg-Is (is-self x)) (omega (arith, lt-as (is-self x) (is-self y) h))
 
 pub sub-mono : {x x' y y' : Fraction} → x ≤q x' → y' ≤q y → x -q y ≤q x' -q y'
 unfolding _-q_
@@ -338,6 +369,15 @@ module _ (x y : Fraction) where
   unfolding maxQ
   max-right = cases x y y x (λ m. y ≤q m) (λ h. ≤q-refl y) (λ h. h)
 
+  -- and it is one of them
+  pub min-one : (minQ x y ≡ x) ⊎ (minQ x y ≡ y)
+  unfolding minQ
+  min-one = cases x y x y (λ m. (m ≡ x) ⊎ (m ≡ y)) (λ h. inl refl) (λ h. inr refl)
+
+  pub max-one : (maxQ x y ≡ x) ⊎ (maxQ x y ≡ y)
+  unfolding maxQ
+  max-one = cases x y y x (λ m. (m ≡ x) ⊎ (m ≡ y)) (λ h. inr refl) (λ h. inl refl)
+
 pub max-least : {x y l : Fraction} → x ≤q l → y ≤q l → maxQ x y ≤q l
 unfolding maxQ
 max-least {x} {y} {l} p q = cases x y y x (λ m. m ≤q l) (λ h. q) (λ h. p)
@@ -345,3 +385,7 @@ max-least {x} {y} {l} p q = cases x y y x (λ m. m ≤q l) (λ h. q) (λ h. p)
 pub min-above : {l x y : Fraction} → l <q x → l <q y → l <q minQ x y
 unfolding minQ
 min-above {l} {x} {y} p q = cases x y x y (λ m. l <q m) (λ h. p) (λ h. q)
+
+pub min-greatest : {l x y : Fraction} → l ≤q x → l ≤q y → l ≤q minQ x y
+unfolding minQ
+min-greatest {l} {x} {y} p q = cases x y x y (λ m. l ≤q m) (λ h. p) (λ h. q)

@@ -77,7 +77,7 @@ module _ (w : ℕ → ℕ) {D : ℕ} (hD : 1 ≤ D) where
       (weights-above c (suc k) (omega arith) (λ j p q. h j (omega arith) (omega arith))))
       (≈q-≤q (over-add (w k) (weights w c (suc k)) hD))
 
-weights-one : (c k : ℕ) → weights (λ (j : ℕ). 1) c k ≡ c
+pub weights-one : (c k : ℕ) → weights (λ (j : ℕ). 1) c k ≡ c
 weights-one zero k = refl
 weights-one (suc c) k = omega (arith, weights-one c (suc k))
 

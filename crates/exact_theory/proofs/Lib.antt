@@ -6,3 +6,6 @@ pub mod LogarithmLaws
 pub mod RootLaws
 pub mod Points
 pub mod UnitLaws
+pub mod Branches
+pub mod DefinedTest
+pub mod Coarse

@@ -9,12 +9,12 @@ use borrow.Author.Tests.{le-leb, lt-leb}
 use lib.IntN.{pos}
 use Rattle.toolbox_theory.specs.Whole.{up, down}
 use Rattle.exact_theory.specs.Fraction.{_over_, _≤q_, _<q_, _+q_, negQ, zeroQ}
-use Rattle.exact_theory.specs.Pair.{Proper, AboveZero}
+use Rattle.exact_theory.specs.Pair.{AboveZero}
 use Rattle.exact_theory.specs.Logarithm.{harmonic, lowerSum, upperSum, lnPair}
 use Rattle.exact_theory.specs.Formula.{ln, eval, Defined, Encloses, units, ends}
 use Rattle.exact_theory.proofs.FractionLaws.{zero-Is, over-Is, le-of, lt-of, ≤q-refl, ≤q-trans, <q-≤q-trans}
-use Rattle.exact_theory.proofs.FractionLaws.{≈q-≤q, ≈q-≥q, add-mono, add-more, add-comm-le, neg-anti}
-use Rattle.exact_theory.proofs.PairLaws.{ends-meet}
+use Rattle.exact_theory.proofs.FractionLaws.{≈q-≤q, ≈q-≥q, add-mono, add-more, add-above, add-comm-le, neg-anti}
+use Rattle.exact_theory.proofs.PairLaws.{Proper, ends-meet}
 use Rattle.exact_theory.proofs.Harmonic.{over-≤, over-add, harmonic-split, harmonic-least, harmonic-more}
 use Rattle.exact_theory.proofs.Harmonic.{finer-upper, finer-lower}
 
@@ -81,11 +81,6 @@ module _ (n : ℕ) {a c b : ℕ} (hb : b ≤ c) (ha : c ≤ a) where
       ≤q-trans (rw two-gaps (rw past-suc at (≈q-≤q (harmonic-split (c * n - b * n) (a * n - c * n) (suc (b * n))))))
       (add-comm-le _ _)
 
--- the sum from a greater b is the lesser
-pub upper-shorter : (n : ℕ) {a c b : ℕ} → 1 ≤ b → b ≤ c → c ≤ a → 1 ≤ n → upperSum n a c ≤q upperSum n a b
-unfolding upperSum
-upper-shorter n hb p q h = ≤q-trans (add-more _ (harmonic-least _ _ (one-le-mul hb h))) (upper-chain n p q)
-
 pub bounds-plus : (S : ℕ) {x y v w a c b : ℕ} → 1 ≤ S → b ≤ c → c ≤ a →
     Bounds S x y a c → Bounds S v w c b → Bounds S (x + v) (y + w) a b
 bounds-plus S {x} {y} {v} {w} hS hb ha p q = record {
@@ -137,6 +132,14 @@ harmonic-above zero k hc hk = absurd (omega arith)
 harmonic-above (suc c) k hc hk =
     <q-≤q-trans (lt-of zero-Is (over-Is (pos 1) k hk) (omega arith))
     (add-more _ (harmonic-least c (suc k) (omega arith)))
+
+-- the sum from a greater b is the lesser
+pub upper-shorter : (n : ℕ) {a c b : ℕ} → 1 ≤ b → b < c → c ≤ a → 1 ≤ n → upperSum n a c <q upperSum n a b
+unfolding upperSum
+upper-shorter n {a} {c} {b} hb p q h =
+    let some : 1 ≤ c * n - b * n = omega (arith, mul-le-mul-right n p) in
+    <q-≤q-trans (add-above _ (harmonic-above (c * n - b * n) (b * n) some (one-le-mul hb h)))
+    (upper-chain n (le-of-lt p) q)
 
 module _ {a b : ℕ} (hb : 1 ≤ b) (hab : b ≤ a) where
   -- for a ≥ b the ends are the two sums, in order

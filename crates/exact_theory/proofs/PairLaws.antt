@@ -4,12 +4,16 @@ use mathlib.Core.Path.{_≡_, refl}
 use mathlib.Core.Bool.{Bool, true, false, cond}
 use lib.Dec.{T}
 use Rattle.exact_theory.specs.Fraction.{Fraction, leQ, _≤q_, _<q_, _+q_, _-q_, _*q_, _/q_, zeroQ, maxQ}
-use Rattle.exact_theory.specs.Pair.{Pair, _∈_, Meets, Proper, AboveZero, exactly, _+p_, _-p_, span4, _*p_, _/p_}
+use Rattle.exact_theory.specs.Pair.{Pair, _∈_, Meets, AboveZero, exactly, _+p_, _-p_, span4, _*p_, _/p_}
 use Rattle.exact_theory.specs.Pair.{hull, reachesUpTo, reachesAbove, branch}
 use Rattle.exact_theory.proofs.FractionLaws.{≤q-refl, ≤q-trans, <q-≤q-trans, ≤q-<q-trans, mul-above, min-above}
 use Rattle.exact_theory.proofs.FractionLaws.{add-mono, sub-mono, Between, upward, downward, mul-between-left}
 use Rattle.exact_theory.proofs.FractionLaws.{mul-between-right, between-low, between-high, recip-anti, min-left}
 use Rattle.exact_theory.proofs.FractionLaws.{min-right, max-left, max-right, max-least}
+
+-- the low end is at most the high end, as in every pair of a formula that is `Defined`
+pub record Proper (P : Pair) : Type 0 where
+  pub ordered : P .low ≤q P .high
 
 -- ---- points of one pair
 
@@ -23,7 +27,7 @@ in-proper h = record { ordered = ≤q-trans (h .from) (h .to) }
 pub low-in : {P : Pair} → Proper P → P .low ∈ P
 low-in {P} p = record { from = ≤q-refl (P .low); to = p .ordered }
 
-high-in : {P : Pair} → Proper P → P .high ∈ P
+pub high-in : {P : Pair} → Proper P → P .high ∈ P
 high-in {P} p = record { from = p .ordered; to = ≤q-refl (P .high) }
 
 pub in-add : {x y : Fraction} {P Q : Pair} → x ∈ P → y ∈ Q → x +q y ∈ P +p Q
@@ -76,11 +80,11 @@ in-div z h k =
     in-span (in-between h)
     (downward (recip-anti (<q-≤q-trans (z .above) (k .from)) (k .to)) (recip-anti (z .above) (k .from)))
 
-in-hull-left : {x : Fraction} {P : Pair} (Q : Pair) → x ∈ P → x ∈ hull P Q
+pub in-hull-left : {x : Fraction} {P : Pair} (Q : Pair) → x ∈ P → x ∈ hull P Q
 unfolding hull
 in-hull-left Q h = record { from = ≤q-trans (min-left _ _) (h .from); to = ≤q-trans (h .to) (max-left _ _) }
 
-in-hull-right : {x : Fraction} (P : Pair) {Q : Pair} → x ∈ Q → x ∈ hull P Q
+pub in-hull-right : {x : Fraction} (P : Pair) {Q : Pair} → x ∈ Q → x ∈ hull P Q
 unfolding hull
 in-hull-right P h = record { from = ≤q-trans (min-right _ _) (h .from); to = ≤q-trans (h .to) (max-right _ _) }
 

@@ -1,16 +1,18 @@
 -- The fact about pairs. Put a point of its pair for each logarithm and root of a formula: the value that the formula
 -- then has lies in the formula's pair. So ends that hold this value enclose the formula. One fact serves every
 -- operation.
+use mathlib.Core.Path.{_≡_, refl}
 use mathlib.Core.Bool.{cond}
 use Prim.Native.Nat.{ℕ, _*_, _≤_, _<_}
 use native.Mathlib.Omega.{arith}
 use Rattle.exact_theory.specs.Fraction.{Fraction, leQ, _+q_, _-q_, _*q_, _/q_}
-use Rattle.exact_theory.specs.Pair.{Pair, _∈_, Proper, AboveZero}
+use Rattle.exact_theory.specs.Pair.{Pair, _∈_, AboveZero}
 use Rattle.exact_theory.specs.Logarithm.{lnPair}
 use Rattle.exact_theory.specs.Root.{wholeRoot, rootPair}
 use Rattle.exact_theory.specs.Formula.{Formula, stated, ln, root, _⊕_, _⊖_, _⊗_, _⊘_, ifUpTo, eval, Defined}
-use Rattle.exact_theory.specs.Formula.{Encloses}
-use Rattle.exact_theory.proofs.PairLaws.{in-exactly, in-proper, low-in, in-add, in-sub, in-mul, in-div}
+use Rattle.exact_theory.specs.Formula.{lnQ, Encloses}
+use Rattle.exact_theory.proofs.FractionLaws.{Is, num-natural}
+use Rattle.exact_theory.proofs.PairLaws.{Proper, in-exactly, in-proper, low-in, in-add, in-sub, in-mul, in-div}
 use Rattle.exact_theory.proofs.PairLaws.{in-branch, above-mul}
 use Rattle.exact_theory.proofs.LogarithmLaws.{ln-proper, ln-above}
 use Rattle.exact_theory.proofs.RootLaws.{values-proper}
@@ -30,6 +32,11 @@ value σ (e ⊖ f) = value σ e -q value σ f
 value σ (e ⊗ f) = value σ e *q value σ f
 value σ (e ⊘ f) = value σ e /q value σ f
 value σ (ifUpTo e f A B) = cond (leQ (value σ e) (value σ f)) (value σ A) (value σ B)
+
+-- the logarithm of a/b by its own a and b
+pub lnQ-is : {x : Fraction} {a b : ℕ} → Is x a 0 b → lnQ x ≡ ln a b
+unfolding lnQ
+lnQ-is i = rw (num-natural i, i .scale) refl
 
 -- each is a point of its pair at fineness n
 pub record Picked (n : ℕ) (σ : Points) : Type 0 where

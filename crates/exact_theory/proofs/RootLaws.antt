@@ -6,10 +6,9 @@ use native.Mathlib.Nat.{mul-le-mul, mul-le-mul-right, one-le-mul}
 use native.Mathlib.Decide.{decLe}
 use native.Mathlib.Omega.{arith}
 use lib.Dec.{T, leb, leb→le, nleb→lt}
-use Rattle.exact_theory.specs.Pair.{Proper}
 use Rattle.exact_theory.specs.Root.{greatest, wholeRoot, rootValues, rootPair}
 use Rattle.exact_theory.specs.Formula.{root, eval, Defined, Encloses}
-use Rattle.exact_theory.proofs.PairLaws.{ends-meet}
+use Rattle.exact_theory.proofs.PairLaws.{Proper, ends-meet}
 use Rattle.exact_theory.proofs.Harmonic.{over-≤}
 
 -- k is the root of m, rounded down

@@ -3,6 +3,7 @@
 use Prim.Native.Nat.{ℕ, _≤_}
 use lib.Dec.{T}
 use lib.IntN.{ℤ}
+use Rattle.toolbox_theory.specs.Whole.{up}
 use Rattle.exact_theory.specs.Fraction.{Fraction, _over_}
 use Rattle.exact_theory.specs.Pair.{Pair, Meets, AboveZero, exactly, _+p_, _-p_, _*p_, _/p_, reachesUpTo}
 use Rattle.exact_theory.specs.Pair.{reachesAbove, branch}
@@ -26,6 +27,11 @@ pub data Formula : Type 0 where
   _⊘_ : Formula → Formula → Formula
   -- ifUpTo e f A B is A where e is up to and including f, and B where e is above f
   ifUpTo : Formula → Formula → Formula → Formula → Formula
+
+-- ln x of a fraction x = a/b above zero, by the sums of its own a and b: nothing is cancelled. (For x below zero it is
+-- that of 0, which is not `Defined`.)
+unfoldable pub lnQ : Fraction → Formula
+lnQ x = ln (up (x .num)) (x .den)
 
 -- "A formula at fineness n is worked out over such pairs"
 unfoldable pub eval : ℕ → Formula → Pair

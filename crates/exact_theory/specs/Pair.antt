@@ -20,10 +20,6 @@ pub record Meets (P Q : Pair) : Type 0 where
   pub left : point ∈ P
   pub right : point ∈ Q
 
--- the low end is at most the high end, as in every pair of a formula that is `Defined`
-pub record Proper (P : Pair) : Type 0 where
-  pub ordered : P .low ≤q P .high
-
 -- "a pair above zero": its low end is
 pub record AboveZero (P : Pair) : Type 0 where
   pub above : zeroQ <q P .low

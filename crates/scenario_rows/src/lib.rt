@@ -1,6 +1,6 @@
 // The row of a period in the tables of each model.
 ghost use mathlib.Core.Path.{_≡_};
-ghost use Rattle.scenario_theory.specs.Refusal.{idrissRow, booreAtkinsonRow};
+ghost use Rattle.scenario_theory.specs.Rows.{idrissRow, booreAtkinsonRow};
 
 // The row of a period that has none: the number of rows.
 pub const NO_ROW: usize = 22;

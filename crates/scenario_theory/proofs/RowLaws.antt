@@ -6,8 +6,8 @@ use Prim.Native.Nat.{ℕ, _<_}
 use lib.Dec.{T, eqb, ltb, ltb→lt}
 use Rattle.toolbox_theory.specs.Lists.{among, placeIn}
 use Rattle.toolbox_theory.proofs.ListLaws.{past-the-end, all, all-at}
-use Rattle.scenario_theory.specs.Refusal.{idriss, booreAtkinson, idrissRow, booreAtkinsonRow}
-use Rattle.scenario_theory.specs.Rows.{rowCount}
+use Rattle.scenario_theory.specs.Refusal.{idriss, booreAtkinson}
+use Rattle.scenario_theory.specs.Rows.{idrissRow, booreAtkinsonRow, rowCount}
 
 pub idriss-untabled : (T : ℕ) {row : ℕ} → row ≡ idrissRow T → eqb row rowCount ≡ not (among (0 ∷ idriss .periods) T)
 unfolding idrissRow

@@ -1,10 +1,10 @@
--- Which scenarios each model takes, the number of the first check that a scenario fails, and the row of a period.
--- Document 01, 'The scenario' and 'What is turned away'.
+-- Which scenarios each model takes, and the number of the first check that a scenario fails. Document 01, 'The
+-- scenario' and 'What is turned away'.
 use mathlib.Core.Bool.{not, cond}
 use mathlib.Core.List.{List, [], _∷_}
 use Prim.Native.Nat.{ℕ}
 use lib.Dec.{eqb}
-use Rattle.toolbox_theory.specs.Lists.{among, placeIn, _without_}
+use Rattle.toolbox_theory.specs.Lists.{among, _without_}
 use Rattle.scenario_theory.specs.declared.Scenario.{Scenario}
 use Rattle.scenario_theory.specs.Checks.{Range, _to_, beyond, _when_, _otherwise_}
 
@@ -58,13 +58,3 @@ refusalBy m s =
 unfoldable pub refusalOf : Scenario → ℕ
 refusalOf s =
     cond (eqb (s .model) 1) (refusalBy idriss s) (cond (eqb (s .model) 2) (refusalBy booreAtkinson s) 1)
-
--- the row of a period in Idriss's tables, counted from 0 at 0.01 s: "Period 0 uses the row 0.01" ('Idriss')
-unfoldable pub idrissRow : ℕ → ℕ
-idrissRow T = placeIn (idriss .periods) (cond (eqb T 0) 10 T)
-
--- the row of a period in Boore-Atkinson's tables, counted from 0 at PGA, with the periods after it: "Period 0 uses the
--- row PGA" ('Boore-Atkinson on rock'). The row PGV, which is printed before it, is left out: "Peak velocity .. lie
--- outside it"
-unfoldable pub booreAtkinsonRow : ℕ → ℕ
-booreAtkinsonRow T = placeIn (0 ∷ booreAtkinson .periods) T

@@ -1,12 +1,12 @@
 -- Laws of a search through a list, for any list.
-use mathlib.Core.Path.{_≡_, refl, ap, _∙_}
+use mathlib.Core.Path.{_≡_, refl, sym, ap, _∙_}
 use mathlib.Core.Bool.{false≢true, Bool, true, false, not, _&&_, _||_, cond}
-use mathlib.Core.List.{List, [], _∷_}
+use mathlib.Core.List.{List, [], _∷_, map}
 use Prim.Native.Nat.{ℕ, suc, _≤_}
 use borrow.Author.Tests.{ne-eqb, eqb-true}
 use lib.Dec.{T, eqb, leb, leb→le, eqb·suc-suc, eqb·zero-suc}
-use lib.ListN.{length}
-use Rattle.toolbox_theory.specs.Lists.{among, placeIn}
+use lib.ListN.{length, getD}
+use Rattle.toolbox_theory.specs.Lists.{among, placeIn, lookup}
 
 -- x is none of the numbers of a list, as a match has it, after what it has before
 abbrev pub Missed : Type 0 → List ℕ → ℕ → Type 0
@@ -54,3 +54,25 @@ upTo k l = all (λ y. leb y k) l
 
 pub at-most : (k : ℕ) (l : List ℕ) (x : ℕ) → T (upTo k l) → among l x ≡ true → x ≤ k
 at-most k l x t e = leb→le x k (all-at (λ y. leb y k) l x t e)
+
+-- the row that has a key is the row in the key's place
+module _ {A : Type 0} (key : A → ℕ) (none : A) where
+  pub lookup-at : (rows : List A) (x : ℕ) → lookup key none rows x ≡ getD rows (placeIn (map key rows) x) none
+  lookup-at [] x = refl
+  lookup-at (r ∷ rows) x = go (eqb x (key r)) (lookup-at rows x)
+    where
+      go : (b : Bool) → lookup key none rows x ≡ getD rows (placeIn (map key rows) x) none →
+          cond b r (lookup key none rows x) ≡ getD (r ∷ rows) (cond b 0 (suc (placeIn (map key rows) x))) none
+      go true e = refl
+      go false e = e
+
+  -- and has that key, where the key is in the table
+  pub lookup-key : (rows : List A) (x : ℕ) → among (map key rows) x ≡ true → key (lookup key none rows x) ≡ x
+  lookup-key [] x e = absurd (false≢true e)
+  lookup-key (r ∷ rows) x e = go (eqb x (key r)) refl e (lookup-key rows x)
+    where
+      go : (b : Bool) → eqb x (key r) ≡ b → (b || among (map key rows) x) ≡ true →
+          (among (map key rows) x ≡ true → key (lookup key none rows x) ≡ x) →
+          key (cond b r (lookup key none rows x)) ≡ x
+      go true q e ih = sym (eqb-true x (key r) q)
+      go false q e ih = ih e

@@ -67,6 +67,11 @@ all-le (p ∷ ps) t =
     let first = and-left (leb (p .0) (p .1)) (allLe ps) t in
     (leb→le (p .0) (p .1) first, all-le ps (and-right (leb (p .0) (p .1)) (allLe ps) t))
 
+-- numbers that are equal, pair by pair, are in order both ways
+abbrev pub equal : List (ℕ × ℕ) → List (ℕ × ℕ)
+equal [] = []
+equal (p ∷ ps) = p ∷ (p .1, p .0) ∷ equal ps
+
 -- ---- a table whose rows are within limits, each limit two numbers in order
 
 module _ {A : Type 0} (limits : A → List (ℕ × ℕ)) where

@@ -2,7 +2,7 @@
 use Prim.Native.Nat.{ℕ, suc}
 use lib.IntN.{ℤ, pos, negsuc}
 
--- z is up z less down z
+-- z where it is not below zero, else 0; z is up z less down z
 unfoldable pub up : ℤ → ℕ
 up (pos n) = n
 up (negsuc n) = 0

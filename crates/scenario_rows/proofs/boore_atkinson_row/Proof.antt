@@ -2,7 +2,8 @@
 use mathlib.Core.Path.{refl}
 use mathlib.Core.List.{_∷_}
 use Rattle.toolbox_theory.proofs.ListLaws.{missed}
-use Rattle.scenario_theory.specs.Refusal.{booreAtkinson, booreAtkinsonRow}
+use Rattle.scenario_theory.specs.Refusal.{booreAtkinson}
+use Rattle.scenario_theory.specs.Rows.{booreAtkinsonRow}
 use Rattle.scenario_rows.proofs.boore_atkinson_row.Statement.{statement}
 use Rattle.scenario_rows.proofs.boore_atkinson_row.Tie as tie
 

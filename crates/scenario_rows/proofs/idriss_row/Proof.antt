@@ -4,8 +4,8 @@ use mathlib.Core.List.{_∷_}
 use Prim.Native.Nat.{ℕ}
 use borrow.Author.Tests.{ne-eqb}
 use Rattle.toolbox_theory.proofs.ListLaws.{Missed, earlier, missed}
-use Rattle.scenario_theory.specs.Refusal.{idriss, idrissRow}
-use Rattle.scenario_theory.specs.Rows.{rowCount}
+use Rattle.scenario_theory.specs.Refusal.{idriss}
+use Rattle.scenario_theory.specs.Rows.{idrissRow, rowCount}
 use Rattle.scenario_rows.proofs.idriss_row.Statement.{statement}
 use Rattle.scenario_rows.proofs.idriss_row.Tie as tie
 
