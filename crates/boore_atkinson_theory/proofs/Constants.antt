@@ -1,7 +1,7 @@
 -- The constant pairs hold what they stand for: the logarithm computes the four logarithms and those that the others are
 -- made of, and each quotient is compared by a product.
 use mathlib.Core.Path.{_≡_, refl}
-use Prim.Native.Nat.{ℕ, _*_, _≤_, _<_}
+use Prim.Native.Nat.{ℕ, _*_, _/_, _≤_, _<_}
 use native.Mathlib.Omega.{arith}
 use lib.Count.{leadingZeros}
 use lib.IntN.{pos, negℤ}
@@ -18,10 +18,15 @@ use Rattle.logarithm_theory.proofs.Enclosure.{Known}
 use Rattle.outward_theory.specs.Evaluation.{productOf}
 use Rattle.outward_theory.proofs.Laws.{Held, HeldBelow, product-held, recip-held}
 use Rattle.boore_atkinson_theory.specs.Constants.{minusLnLow, minusLnA1, minusLnA2, lnTen, overSlow, overFast}
-use Rattle.boore_atkinson_theory.specs.Constants.{vrefTenths, v2Tenths, v1Tenths, cOver, dOver}
+use Rattle.boore_atkinson_theory.specs.Constants.{cOver, dOver}
+use Rattle.boore_atkinson_theory.specs.Tables.{a1, pgaLow, a2, Vref, V2, V1}
 
 abbrev pair : ℕ → ℕ → Ends
 pair low high = record { low = low; high = high }
+
+-- the quotients of Table 4's accelerations in Δx and Δy have no remainder
+pub no-remainder : (a1 * (a2 / a1) ≡ a2) × (pgaLow * (10 * a2 / pgaLow) ≡ 10 * a2)
+no-remainder = (refl, refl)
 
 -- ---- the computed test
 
@@ -31,8 +36,8 @@ record Computed : Type 0 where
   first : lnOf 100 3 ≡ minusLnA1
   second : lnOf 100 9 ≡ minusLnA2
   ten : lnOf 10 1 ≡ lnTen
-  slow : lnOf v2Tenths v1Tenths ≡ pair 510_825_623 510_825_624
-  fast : lnOf vrefTenths v2Tenths ≡ pair 929_535_958 929_535_959
+  slow : lnOf V2 V1 ≡ pair 510_825_623 510_825_624
+  fast : lnOf Vref V2 ≡ pair 929_535_958 929_535_959
   three : lnOf 3 1 ≡ pair 1_098_612_288 1_098_612_289
   half-more : lnOf 15 10 ≡ pair 405_465_108 405_465_109
 
@@ -83,12 +88,12 @@ module _ {σ : Points} (known : Known σ) where
   pub ten-below : HeldBelow (σ .lnAt 1 10) lnTen
   ten-below = turned 1 10 (omega arith) ten-held
 
-  pub slow-held : Held (recipQ (σ .lnAt v2Tenths v1Tenths)) overSlow
+  pub slow-held : Held (recipQ (σ .lnAt V2 V1)) overSlow
   slow-held =
       recip-held (at-computed (within (omega arith) (omega arith) (omega arith)) (computed .slow))
       (omega arith) overSlow (omega arith) (omega arith)
 
-  pub fast-held : Held (recipQ (σ .lnAt vrefTenths v2Tenths)) overFast
+  pub fast-held : Held (recipQ (σ .lnAt Vref V2)) overFast
   fast-held =
       recip-held (at-computed (within (omega arith) (omega arith) (omega arith)) (computed .fast))
       (omega arith) overFast (omega arith) (omega arith)

@@ -1,7 +1,7 @@
 -- The nonlinear part is bnl times −ln(0.1/0.06) + θ, and θ lies where the evaluation has it, in whichever branch.
 use mathlib.Core.Path.{_≡_, refl}
 use mathlib.Core.Bool.{Bool, true, false, cond}
-use Prim.Native.Nat.{ℕ, _+_, _*_, _-_, _≤_, _<_, min, max}
+use Prim.Native.Nat.{ℕ, _+_, _-_, _≤_, _<_, min, max}
 use native.Mathlib.Decide.{decLe}
 use native.Mathlib.Omega.{arith}
 use borrow.Author.Tests.{le-leb, lt-ltb}
@@ -21,13 +21,13 @@ use Rattle.logarithm_theory.specs.declared.Ends.{Ends}
 use Rattle.logarithm_theory.proofs.Enclosure.{Known}
 use Rattle.outward_theory.specs.Evaluation.{productOf, spanOf}
 use Rattle.outward_theory.proofs.Laws.{Held, HeldBelow, product-held, sum-held, span-left, span-right}
-use Rattle.boore_atkinson_theory.specs.declared.Motion.{Motion}
-use Rattle.boore_atkinson_theory.specs.SiteTerm.{x, y, c, d, lowPart, transition, highPart, nonlinearPart}
+use Rattle.boore_atkinson_theory.specs.declared.SignedPair.{SignedPair}
+use Rattle.boore_atkinson_theory.specs.SiteTerm.{Δx, Δy, c, d, lowPart, transition, highPart, nonlinearPart}
 use Rattle.boore_atkinson_theory.specs.Constants.{minusLnLow, minusLnA1, minusLnA2, cOver, dOver}
 use Rattle.boore_atkinson_theory.specs.Evaluation.{exactly, zOf, cubicOf, straightOf, branchOf, curveOf}
 use Rattle.boore_atkinson_theory.proofs.Constants.{low-held, first-below, second-below, ten-below, c-held}
 use Rattle.boore_atkinson_theory.proofs.Constants.{d-held}
-use Rattle.boore_atkinson_theory.proofs.RockLaws.{Moves}
+use Rattle.boore_atkinson_theory.proofs.RockLaws.{LiesIn}
 
 -- ---- which branches are reached
 
@@ -131,9 +131,9 @@ module _ {σ : Points} (known : Known σ) {P : Fraction} {b : Ends} (h : HeldBel
 -- ---- the nonlinear part is β (−κ + θ)
 
 -- n (k + θ) for θ between q's ends: β below zero, −β between n's ends
-product-moves : {β κ θ : Fraction} {n k q : Ends} → HeldBelow β n → Held κ k → Held θ q →
-    Moves (β *q (negQ κ +q θ)) (record { gain = productOf n k; loss = productOf n q })
-product-moves {β} {κ} {θ} h low curve =
+product-lies : {β κ θ : Fraction} {n k q : Ends} → HeldBelow β n → Held κ k → Held θ q →
+    LiesIn (β *q (negQ κ +q θ)) (record { gain = productOf n k; loss = productOf n q })
+product-lies {β} {κ} {θ} h low curve =
     let ν = lies-negated h in
     lies-same (≈q-sym (mul-add β (negQ κ) θ)) (lies-wider
     (lies-sum (lies-same (≈q-sym (neg-swap β κ)) (product-held ν low))
@@ -168,7 +168,7 @@ module _ {σ : Points} (known : Known σ) (slope p : Formula) {n b : Ends} (h : 
   P = value σ p
 
   -- the evaluation, by θ's ends
-  abbrev own : Ends → Motion
+  abbrev own : Ends → SignedPair
   own q = record { gain = productOf n minusLnLow; loss = productOf n q }
 
   low-same : value σ (lowPart slope) ≈q β *q negQ (σ .lnAt 10 6)
@@ -176,43 +176,43 @@ module _ {σ : Points} (known : Known σ) (slope p : Formula) {n b : Ends} (h : 
   low-same = rw (known .ln-negated {a = 6} {b = 10} (omega arith)) (≈q-refl _)
 
   -- up to ln 0.03: θ is 0
-  low-moves : P ≤q σ .lnAt 3 100 → Moves (value σ (lowPart slope)) (own (curveOf b))
+  low-lies : P ≤q σ .lnAt 3 100 → LiesIn (value σ (lowPart slope)) (own (curveOf b))
   unfolding curveOf
-  low-moves le =
+  low-lies le =
       lies-same (≈q-trans low-same (mul-cong-right β (add-zero (negQ (σ .lnAt 10 6)))))
-      (product-moves h (low-held known) (branch-from b minusLnA1 (exactly 0) _ (reaches k (first-below known) le)
+      (product-lies h (low-held known) (branch-from b minusLnA1 (exactly 0) _ (reaches k (first-below known) le)
       (lies-stated zero-Is 0 0 (omega arith))))
 
   -- up to ln 0.09
-  transition-moves : σ .lnAt 3 100 <q P → P ≤q σ .lnAt 9 100 → Moves (value σ (transition slope p)) (own (curveOf b))
-  unfolding value transition c d x y _/q_ curveOf
-  transition-moves lt le =
+  transition-lies : σ .lnAt 3 100 <q P → P ≤q σ .lnAt 9 100 → LiesIn (value σ (transition slope p)) (own (curveOf b))
+  unfolding value transition c d Δx Δy _/q_ curveOf
+  transition-lies lt le =
       let z : Fraction = P -q σ .lnAt 3 100 in
       let w : Fraction = σ .lnAt 15 10 in
       let l : Fraction = σ .lnAt 3 1 in
       lies-same (≈q-trans (add-cong low-same (≈q-refl _))
       (gathered β (negQ (σ .lnAt 10 6)) _ _ (z *q z) (z *q z *q z) (c-over β w l (recipQ (l *q l)) (pos 3 over 1))
-      (d-over β w l (recipQ (l *q l *q l)) (pos 2 over 1) (negℤ (pos 1) over 1)))) (product-moves h (low-held known)
+      (d-over β w l (recipQ (l *q l *q l)) (pos 2 over 1) (negℤ (pos 1) over 1)))) (product-lies h (low-held known)
       (branch-below b minusLnA1 (exactly 0) _ (passes k (first-below known) lt)
       (branch-from b minusLnA2 _ (straightOf b) (reaches k (second-below known) le)
       (cubic-held known k (z-held known k lt le) (c-held known) (d-held known)))))
 
   -- above
-  high-moves : σ .lnAt 3 100 <q P → σ .lnAt 9 100 <q P → Moves (value σ (highPart slope p)) (own (curveOf b))
+  high-lies : σ .lnAt 3 100 <q P → σ .lnAt 9 100 <q P → LiesIn (value σ (highPart slope p)) (own (curveOf b))
   unfolding value highPart curveOf
-  high-moves lt beyond =
-      lies-same (mul-cong-right β (add-cancel (σ .lnAt 10 6) (P -q σ .lnAt 1 10))) (product-moves h (low-held known)
+  high-lies lt beyond =
+      lies-same (mul-cong-right β (add-cancel (σ .lnAt 10 6) (P -q σ .lnAt 1 10))) (product-lies h (low-held known)
       (branch-below b minusLnA1 (exactly 0) _ (passes k (first-below known) lt)
       (branch-below b minusLnA2 (cubicOf (zOf b)) _ (passes k (second-below known) beyond)
       (straight-held known k beyond))))
 
-  pub nonlinear-moves : Moves (value σ (nonlinearPart slope p)) (own (curveOf b))
+  pub nonlinear-lies : LiesIn (value σ (nonlinearPart slope p)) (own (curveOf b))
   unfolding value nonlinearPart
-  nonlinear-moves = go (leQ P (σ .lnAt 3 100)) (leQ P (σ .lnAt 9 100)) refl refl
+  nonlinear-lies = go (leQ P (σ .lnAt 3 100)) (leQ P (σ .lnAt 9 100)) refl refl
     where
       go : (i j : Bool) → leQ P (σ .lnAt 3 100) ≡ i → leQ P (σ .lnAt 9 100) ≡ j →
-          Moves (cond i (value σ (lowPart slope)) (cond j (value σ (transition slope p)) (value σ (highPart slope p))))
+          LiesIn (cond i (value σ (lowPart slope)) (cond j (value σ (transition slope p)) (value σ (highPart slope p))))
           (own (curveOf b))
-      go true j ei ej = low-moves record { le = rw ei tt }
-      go false true ei ej = transition-moves record { lt = rw ei tt } record { le = rw ej tt }
-      go false false ei ej = high-moves record { lt = rw ei tt } record { lt = rw ej tt }
+      go true j ei ej = low-lies record { le = rw ei tt }
+      go false true ei ej = transition-lies record { lt = rw ei tt } record { le = rw ej tt }
+      go false false ei ej = high-lies record { lt = rw ei tt } record { lt = rw ej tt }

@@ -5,6 +5,7 @@ use native.Mathlib.Nat.{mul-le-mul, mul-le-mul-left}
 use native.Mathlib.Omega.{arith}
 use lib.Dec.{eqb, leb}
 use Rattle.toolbox_theory.specs.Whole.{up, down}
+use Rattle.exact_theory.specs.Fraction.{_over_}
 use Rattle.logarithm_theory.specs.Promise.{LnDomain}
 use Rattle.logarithm_theory.proofs.Laws.{rootOf-small}
 use Rattle.outward_theory.specs.Evaluation.{Sized, multipleOf}
@@ -13,12 +14,11 @@ use Rattle.boore_atkinson_theory.specs.declared.EffectiveDistance.{Effec
 use Rattle.boore_atkinson_theory.specs.declared.Exact.{Exact}
 use Rattle.boore_atkinson_theory.specs.declared.DistanceRow.{DistanceRow}
 use Rattle.boore_atkinson_theory.specs.declared.MagnitudeRow.{MagnitudeRow}
-use Rattle.boore_atkinson_theory.specs.Tables.{rowAt, pga}
+use Rattle.boore_atkinson_theory.specs.Rows.{rowAt, pga, magnitudeParts, DistanceLimits, MagnitudeLimits}
 use Rattle.boore_atkinson_theory.specs.Rock.{sumOfSquares}
-use Rattle.boore_atkinson_theory.specs.Rows.{magnitudeParts, DistanceLimits, MagnitudeLimits}
 use Rattle.boore_atkinson_theory.specs.Evaluation.{kmOf, effectiveOf, spreadOf, fallOf, levelOf, magnitudeOf}
-use Rattle.boore_atkinson_theory.specs.Evaluation.{rockOf, belowOf}
-use Rattle.boore_atkinson_theory.specs.Sizes.{EffectiveSized, MagnitudeBounds, Small, MotionSized}
+use Rattle.boore_atkinson_theory.specs.Evaluation.{rockOf, minusPOf}
+use Rattle.boore_atkinson_theory.specs.Sizes.{EffectiveSized, MagnitudeBounds, Small, SignedSized}
 use Rattle.boore_atkinson_theory.proofs.Rows.{distance-limits, magnitude-limits}
 
 -- ---- R
@@ -79,9 +79,9 @@ module _ {r : DistanceRow} {m : ℕ} {s : EffectiveDistance} (l : DistanceLimits
 pub magnitude-bounds : {r : MagnitudeRow} {m : ℕ} → MagnitudeLimits r → m ≤ 800 → MagnitudeBounds r m
 magnitude-bounds {r} {m} l high =
     let under : r .11 - m ≤ 850 = omega arith in
-    let over : m - r .11 ≤ 800 = omega arith in
+    let above : m - r .11 ≤ 800 = omega arith in
     let s : (r .11 - m) * (r .11 - m) ≤ 722_500 = mul-le-mul under under in
-    record { slope = mul-le-mul (l .e5) under; square = s; bow = mul-le-mul (l .e6) s; rise = mul-le-mul (l .e7) over }
+    record { slope = mul-le-mul (l .e5) under; square = s; bow = mul-le-mul (l .e6) s; rise = mul-le-mul (l .e7) above }
 
 module _ {r : MagnitudeRow} (l : MagnitudeLimits r) where
   pub level-small : (mechanism : ℕ) → Small (levelOf r mechanism) 3_000_000_000
@@ -119,7 +119,7 @@ module _ {r : MagnitudeRow} (l : MagnitudeLimits r) where
 
 pub rock-sized : {r : DistanceRow} {q : MagnitudeRow} {m : ℕ} {s : EffectiveDistance} (mechanism : ℕ) →
     DistanceLimits r →
-    MagnitudeLimits q → m ≤ 800 → EffectiveSized s → MotionSized (rockOf r q m s mechanism) 4 80_000_000_000
+    MagnitudeLimits q → m ≤ 800 → EffectiveSized s → SignedSized (rockOf r q m s mechanism) 4 80_000_000_000
 unfolding rockOf
 rock-sized {r} {q} {m} {s} mechanism l k high z =
     let f = fall-sized l high z in
@@ -145,7 +145,7 @@ abbrev stated : ℕ → Exact
 stated e = record { gain = 10_000 * 0; loss = 10_000 * e }
 
 pga-level : (mechanism : ℕ) → Falls (levelOf pgaMagnitude mechanism)
-unfolding levelOf rowAt up down
+unfolding levelOf rowAt up down _over_
 pga-level mechanism = go (eqb mechanism 9) (eqb mechanism 0) (eqb mechanism 1)
   where
     go : (a b c : Bool) → Falls (cond a (stated 53_804)
@@ -156,7 +156,7 @@ pga-level mechanism = go (eqb mechanism 9) (eqb mechanism 0) (eqb mechanism 1)
     go false false false = record { gain = omega arith; loss = omega arith }
 
 pga-magnitude : (m mechanism : ℕ) → Falls (magnitudeOf pgaMagnitude m mechanism)
-unfolding magnitudeOf rowAt up down
+unfolding magnitudeOf rowAt up down _over_
 pga-magnitude m mechanism = go (leb m 675) (levelOf pgaMagnitude mechanism) (pga-level mechanism)
   where
     go : (c : Bool) (e : Exact) → Falls e →
@@ -176,9 +176,9 @@ pub pga-order : {r : DistanceRow} (m mechanism : ℕ) (s : EffectiveDistance) �
 unfolding rockOf
 pga-order m mechanism s l = let f = pga-magnitude m mechanism in omega arith
 
-pub below-sized : {m d : ℕ} (mechanism : ℕ) → m ≤ 800 → d ≤ 19_999 → Sized (belowOf m d mechanism) 4 80_000_000_000
-unfolding belowOf
-below-sized {m} {d} mechanism high near =
+pub minus-p-sized : {m d : ℕ} (mechanism : ℕ) → m ≤ 800 → d ≤ 19_999 → Sized (minusPOf m d mechanism) 4 80_000_000_000
+unfolding minusPOf
+minus-p-sized {m} {d} mechanism high near =
     let l = distance-limits 0 (omega arith) .sizes in
     let s = effective-sized (squares near (l .shallow) (l .deep)) in
     let a = rock-sized mechanism l (magnitude-limits 0 (omega arith) .sizes) high s in

@@ -14,11 +14,12 @@ use Rattle.outward_theory.proofs.Laws.{product-from, sum-from, sum-sized, span-
 use Rattle.boore_atkinson_theory.specs.declared.SiteRow.{SiteRow}
 use Rattle.boore_atkinson_theory.specs.Rows.{SiteLimits}
 use Rattle.boore_atkinson_theory.specs.Constants.{minusLnLow, minusLnA1, minusLnA2, overSlow, overFast, cOver}
-use Rattle.boore_atkinson_theory.specs.Constants.{vrefTenths, v2Tenths, v1Tenths, dOver}
-use Rattle.boore_atkinson_theory.specs.Evaluation.{exactly, velocityLnOf, linearOf, slowSlopeOf, fastSlopeOf}
+use Rattle.boore_atkinson_theory.specs.Constants.{dOver}
+use Rattle.boore_atkinson_theory.specs.Tables.{Vref, V2, V1}
+use Rattle.boore_atkinson_theory.specs.Evaluation.{exactly, vs30LnOf, linearOf, slowSlopeOf, fastSlopeOf}
 use Rattle.boore_atkinson_theory.specs.Evaluation.{slopeOf, zOf, cubicOf, straightOf, branchOf, curveOf}
 use Rattle.boore_atkinson_theory.specs.Evaluation.{nonlinearOf}
-use Rattle.boore_atkinson_theory.specs.Sizes.{MotionSized, curveMost}
+use Rattle.boore_atkinson_theory.specs.Sizes.{SignedSized, curveMost}
 use Rattle.boore_atkinson_theory.proofs.SiteLaws.{ln-domain}
 
 pub exactly-sized : (n b : ℕ) → n ≤ b → Sized (exactly n) 0 b
@@ -32,18 +33,18 @@ over-fast-sized = record { order = omega arith; narrow = omega arith; small = om
 
 -- ---- the linear part
 
-pub velocity-sized : {v : ℕ} → v1Tenths ≤ v → v ≤ 13_000 → Sized (velocityLnOf v) lnWidth 21_000_000_000
-unfolding velocityLnOf
-velocity-sized {v = v} slow fast = go (ltb v vrefTenths) refl
+pub vs30-sized : {v : ℕ} → V1 ≤ v → v ≤ 13_000 → Sized (vs30LnOf v) lnWidth 21_000_000_000
+unfolding vs30LnOf
+vs30-sized {v = v} slow fast = go (ltb v Vref) refl
   where
-    go : (c : Bool) → ltb v vrefTenths ≡ c →
-        Sized (cond c (lnOf vrefTenths v) (lnOf v vrefTenths)) lnWidth 21_000_000_000
+    go : (c : Bool) → ltb v Vref ≡ c →
+        Sized (cond c (lnOf Vref v) (lnOf v Vref)) lnWidth 21_000_000_000
     go true c =
-        let h = ltb-true v vrefTenths c in ln-sized (ln-domain (omega arith) (omega arith) (omega arith))
+        let h = ltb-true v Vref c in ln-sized (ln-domain (omega arith) (omega arith) (omega arith))
     go false c =
-        let h = ltb-false v vrefTenths c in ln-sized (ln-domain (omega arith) (omega arith) (omega arith))
+        let h = ltb-false v Vref c in ln-sized (ln-domain (omega arith) (omega arith) (omega arith))
 
-module _ {s : SiteRow} (l : SiteLimits s) {v : ℕ} (slow : v1Tenths ≤ v) where
+module _ {s : SiteRow} (l : SiteLimits s) {v : ℕ} (slow : V1 ≤ v) where
   linear-term : (a b : ℕ) → LnDomain a b → Sized (multipleOf (20_000 * s .0) (lnOf a b)) 3 16_000_000_000
   linear-term a b d =
       sized-wider (multiple-sized (20_000 * s .0) (ln-sized d) 2 15_750_000_000 (omega arith) (omega arith))
@@ -52,33 +53,33 @@ module _ {s : SiteRow} (l : SiteLimits s) {v : ℕ} (slow : v1Tenths ≤ v) wher
   none : Sized (exactly 0) 3 16_000_000_000
   none = sized-wider (exactly-sized 0 0 (omega arith)) (omega arith) (omega arith)
 
-  pub linear-sized : v ≤ 13_000 → MotionSized (linearOf s v) 3 16_000_000_000
+  pub linear-sized : v ≤ 13_000 → SignedSized (linearOf s v) 3 16_000_000_000
   unfolding linearOf
-  linear-sized fast = go (ltb v vrefTenths) refl
+  linear-sized fast = go (ltb v Vref) refl
     where
-      go : (c : Bool) → ltb v vrefTenths ≡ c →
-          MotionSized
-          (cond c record { gain = multipleOf (20_000 * s .0) (lnOf vrefTenths v); loss = exactly 0 }
-          record { gain = exactly 0; loss = multipleOf (20_000 * s .0) (lnOf v vrefTenths) }) 3 16_000_000_000
+      go : (c : Bool) → ltb v Vref ≡ c →
+          SignedSized
+          (cond c record { gain = multipleOf (20_000 * s .0) (lnOf Vref v); loss = exactly 0 }
+          record { gain = exactly 0; loss = multipleOf (20_000 * s .0) (lnOf v Vref) }) 3 16_000_000_000
       go true c =
-          let h = ltb-true v vrefTenths c in
-          let t = linear-term vrefTenths v (ln-domain (omega arith) (omega arith) (omega arith)) in
+          let h = ltb-true v Vref c in
+          let t = linear-term Vref v (ln-domain (omega arith) (omega arith) (omega arith)) in
           record { gain = t; loss = none; together = omega arith }
       go false c =
-          let h = ltb-false v vrefTenths c in
-          let t = linear-term v vrefTenths (ln-domain (omega arith) h (omega arith)) in
+          let h = ltb-false v Vref c in
+          let t = linear-term v Vref (ln-domain (omega arith) h (omega arith)) in
           record { gain = none; loss = t; together = omega arith }
 
   -- ---- the slope
 
-  pub slow-ln : v ≤ v2Tenths → Sized (lnOf v2Tenths v) 2 666_666_669
+  pub slow-ln : v ≤ V2 → Sized (lnOf V2 v) 2 666_666_669
   slow-ln h = ln-sized-by (ln-domain (omega arith) h (omega arith)) 666_666_667 (omega arith)
 
-  pub slow-ratio : v ≤ v2Tenths → Sized (productOf (lnOf v2Tenths v) overSlow) 8 1_305_076_801
+  pub slow-ratio : v ≤ V2 → Sized (productOf (lnOf V2 v) overSlow) 8 1_305_076_801
   slow-ratio h = product-sized (slow-ln h) over-slow-sized 7 1_305_076_800 (omega arith) (omega arith)
 
-  pub slow-term : v ≤ v2Tenths →
-      Sized (multipleOf (20_000 * (s .1 - 10 * s .2)) (productOf (lnOf v2Tenths v) overSlow)) 6 691_690_706
+  pub slow-term : v ≤ V2 →
+      Sized (multipleOf (20_000 * (s .1 - 10 * s .2)) (productOf (lnOf V2 v) overSlow)) 6 691_690_706
   slow-term h =
       let f : 20_000 * (s .1 - 10 * s .2) ≤ 10_600_000 = omega arith in
       multiple-sized (20_000 * (s .1 - 10 * s .2)) (slow-ratio h) 5 691_690_705 (omega arith) (omega arith)
@@ -86,17 +87,17 @@ module _ {s : SiteRow} (l : SiteLimits s) {v : ℕ} (slow : v1Tenths ≤ v) wher
   pub level-sized : Sized (exactly (10_000_000 * s .2)) 0 190_000_000
   level-sized = exactly-sized (10_000_000 * s .2) 190_000_000 (omega arith)
 
-  pub slow-sized : v ≤ v2Tenths → Sized (slowSlopeOf s v) 6 900_000_000
+  pub slow-sized : v ≤ V2 → Sized (slowSlopeOf s v) 6 900_000_000
   unfolding slowSlopeOf
   slow-sized h = sized-wider (sum-sized (slow-term h) level-sized) (omega arith) (omega arith)
 
-  pub fast-ln : v2Tenths ≤ v → v ≤ vrefTenths → Sized (lnOf vrefTenths v) 2 1_533_333_336
+  pub fast-ln : V2 ≤ v → v ≤ Vref → Sized (lnOf Vref v) 2 1_533_333_336
   fast-ln g h = ln-sized-by (ln-domain (omega arith) h (omega arith)) 1_533_333_334 (omega arith)
 
-  pub fast-ratio : v2Tenths ≤ v → v ≤ vrefTenths → Sized (productOf (lnOf vrefTenths v) overFast) 7 1_649_568_609
+  pub fast-ratio : V2 ≤ v → v ≤ Vref → Sized (productOf (lnOf Vref v) overFast) 7 1_649_568_609
   fast-ratio g h = product-sized (fast-ln g h) over-fast-sized 6 1_649_568_608 (omega arith) (omega arith)
 
-  pub fast-sized : v2Tenths ≤ v → v ≤ vrefTenths → Sized (fastSlopeOf s v) 6 900_000_000
+  pub fast-sized : V2 ≤ v → v ≤ Vref → Sized (fastSlopeOf s v) 6 900_000_000
   unfolding fastSlopeOf
   fast-sized g h =
       sized-wider (multiple-sized (200_000 * s .2) (fast-ratio g h) 2 313_418_036 (omega arith) (omega arith))
@@ -104,17 +105,17 @@ module _ {s : SiteRow} (l : SiteLimits s) {v : ℕ} (slow : v1Tenths ≤ v) wher
 
   pub slope-sized : Sized (slopeOf s v) 6 900_000_000
   unfolding slopeOf
-  slope-sized = go (leb v v1Tenths) (leb v v2Tenths) (ltb v vrefTenths) refl refl
+  slope-sized = go (leb v V1) (leb v V2) (ltb v Vref) refl refl
     where
-      go : (a b c : Bool) → leb v v2Tenths ≡ b → ltb v vrefTenths ≡ c →
+      go : (a b c : Bool) → leb v V2 ≡ b → ltb v Vref ≡ c →
           Sized (cond a (exactly (1_000_000 * s .1))
           (cond b (slowSlopeOf s v) (cond c (fastSlopeOf s v) (exactly 0)))) 6 900_000_000
       go true b c eb ec =
           sized-wider (exactly-sized (1_000_000 * s .1) 900_000_000 (omega arith)) (omega arith) (omega arith)
-      go false true c eb ec = slow-sized (leb-true v v2Tenths eb)
+      go false true c eb ec = slow-sized (leb-true v V2 eb)
       go false false true eb ec =
-          let g = leb-false v v2Tenths eb in
-          let h = ltb-true v vrefTenths ec in
+          let g = leb-false v V2 eb in
+          let h = ltb-true v Vref ec in
           fast-sized (omega arith) (omega arith)
       go false false false eb ec = sized-wider (exactly-sized 0 900_000_000 (omega arith)) (omega arith) (omega arith)
 
@@ -305,9 +306,9 @@ low-sized : Sized minusLnLow 1 510_825_624
 low-sized = record { order = omega arith; narrow = omega arith; small = omega arith }
 
 -- the slope times a curve that is at most w wide, k + 1 wide
-nonlinear-by : {s : SiteRow} {v : ℕ} (b : Ends) → SiteLimits s → v1Tenths ≤ v → (w k : ℕ) → Sized
+nonlinear-by : {s : SiteRow} {v : ℕ} (b : Ends) → SiteLimits s → V1 ≤ v → (w k : ℕ) → Sized
     (curveOf b) w curveMost →
-    900_000_000 * w + curveMost * 6 ≤ k * 1_000_000_000 → MotionSized (nonlinearOf s v b) (k + 6) 2_538_000_001
+    900_000_000 * w + curveMost * 6 ≤ k * 1_000_000_000 → SignedSized (nonlinearOf s v b) (k + 6) 2_538_000_001
 unfolding nonlinearOf
 nonlinear-by b l slow w k c h =
     let n = slope-sized l slow in
@@ -319,10 +320,10 @@ nonlinear-by b l slow w k c h =
       together = omega arith;
     }
 
-pub nonlinear-sized : {s : SiteRow} {v : ℕ} (b : Ends) → SiteLimits s → v1Tenths ≤ v → b .low ≤ b .high →
-    MotionSized (nonlinearOf s v b) 2_554_920_006 2_538_000_001
+pub nonlinear-sized : {s : SiteRow} {v : ℕ} (b : Ends) → SiteLimits s → V1 ≤ v → b .low ≤ b .high →
+    SignedSized (nonlinearOf s v b) 2_554_920_006 2_538_000_001
 nonlinear-sized b l slow order = nonlinear-by b l slow curveMost 2_554_920_000 (curve-sized order) (omega arith)
 
-pub nonlinear-narrow : {s : SiteRow} {v : ℕ} {b : Ends} {most : ℕ} → SiteLimits s → v1Tenths ≤ v → Sized b 4 most →
-    MotionSized (nonlinearOf s v b) 42 2_538_000_001
+pub nonlinear-narrow : {s : SiteRow} {v : ℕ} {b : Ends} {most : ℕ} → SiteLimits s → V1 ≤ v → Sized b 4 most →
+    SignedSized (nonlinearOf s v b) 42 2_538_000_001
 nonlinear-narrow {b = b} l slow n = nonlinear-by b l slow 21 36 (curve-narrow n) (omega arith)

@@ -10,20 +10,20 @@ use Rattle.signed_theory.specs.Evaluation.{betweenOf}
 use Rattle.logarithm_theory.specs.declared.Ends.{Ends}
 use Rattle.logarithm_theory.specs.Evaluation.{lnOf, rootOf}
 use Rattle.outward_theory.specs.Evaluation.{multipleOf, productOf, sumOf, spanOf}
-use Rattle.boore_atkinson_theory.specs.declared.Motion.{Motion}
+use Rattle.boore_atkinson_theory.specs.declared.SignedPair.{SignedPair}
 use Rattle.boore_atkinson_theory.specs.declared.EffectiveDistance.{EffectiveDistance}
 use Rattle.boore_atkinson_theory.specs.declared.Exact.{Exact}
 use Rattle.boore_atkinson_theory.specs.declared.SiteRow.{SiteRow}
 use Rattle.boore_atkinson_theory.specs.declared.DistanceRow.{DistanceRow}
 use Rattle.boore_atkinson_theory.specs.declared.MagnitudeRow.{MagnitudeRow}
 use Rattle.boore_atkinson_theory.specs.declared.TotalRow.{TotalRow}
-use Rattle.boore_atkinson_theory.specs.Tables.{Total, Row, pga}
+use Rattle.boore_atkinson_theory.specs.Tables.{Total, Row, Vref, V2, V1}
+use Rattle.boore_atkinson_theory.specs.Rows.{pga, siteParts, distanceParts, magnitudeParts, totalParts}
 use Rattle.boore_atkinson_theory.specs.Rock.{sumOfSquares}
-use Rattle.boore_atkinson_theory.specs.Rows.{siteParts, distanceParts, magnitudeParts, totalParts}
 use Rattle.boore_atkinson_theory.specs.Constants.{minusLnLow, minusLnA1, minusLnA2, overSlow, overFast, cOver}
-use Rattle.boore_atkinson_theory.specs.Constants.{vrefTenths, v2Tenths, v1Tenths, dOver}
+use Rattle.boore_atkinson_theory.specs.Constants.{dOver}
 use Rattle.boore_atkinson_theory.specs.Evaluation.{exactly, kmOf, effectiveOf, spreadOf, fallOf, levelOf}
-use Rattle.boore_atkinson_theory.specs.Evaluation.{flatFrom, magnitudeOf, rockOf, belowOf, belowFor, velocityLnOf}
+use Rattle.boore_atkinson_theory.specs.Evaluation.{flatFrom, magnitudeOf, rockOf, minusPOf, minusPFor, vs30LnOf}
 use Rattle.boore_atkinson_theory.specs.Evaluation.{linearOf, slowSlopeOf, fastSlopeOf, slopeOf, zOf, cubicOf}
 use Rattle.boore_atkinson_theory.specs.Evaluation.{branchOf, curveOf, nonlinearOf, endsOf, plusOf, medianOf}
 use Rattle.boore_atkinson_theory.specs.Evaluation.{sigmaOf}
@@ -67,62 +67,62 @@ pub rock-is : (r : DistanceRow) (q : MagnitudeRow) (m : ℕ) (s : EffectiveDista
 unfolding rockOf
 rock-is r q m s mechanism f g = rw (f, g) refl
 
-pub below-is : (m d mechanism : ℕ) {r : DistanceRow} {q : MagnitudeRow} {s : EffectiveDistance} {a : Motion} →
+pub minus-p-is : (m d mechanism : ℕ) {r : DistanceRow} {q : MagnitudeRow} {s : EffectiveDistance} {a : SignedPair} →
     r ≡ distanceParts (pga .distance) → q ≡ magnitudeParts (pga .magnitude) → s ≡ effectiveOf d (r .4) →
     a ≡ rockOf r q m s mechanism →
-    record { low = a .loss .low - a .gain .low; high = a .loss .high - a .gain .low } ≡ belowOf m d mechanism
-unfolding belowOf
-below-is m d mechanism r q s a = rw (a, s, r, q) refl
+    record { low = a .loss .low - a .gain .low; high = a .loss .high - a .gain .low } ≡ minusPOf m d mechanism
+unfolding minusPOf
+minus-p-is m d mechanism r q s a = rw (a, s, r, q) refl
 
 -- ---- the site term
 
 module _ (s : SiteRow) (v : ℕ) {e n : Ends} (none : n ≡ exactly 0) where
-  pub linear-slow : v < vrefTenths → e ≡ multipleOf (20_000 * s .0) (lnOf vrefTenths v) →
+  pub linear-slow : v < Vref → e ≡ multipleOf (20_000 * s .0) (lnOf Vref v) →
       record { gain = e; loss = n } ≡ linearOf s v
   unfolding linearOf
-  linear-slow h term = rw (lt-ltb v vrefTenths h, term, none) refl
+  linear-slow h term = rw (lt-ltb v Vref h, term, none) refl
 
-  pub linear-fast : vrefTenths ≤ v → e ≡ multipleOf (20_000 * s .0) (lnOf v vrefTenths) →
+  pub linear-fast : Vref ≤ v → e ≡ multipleOf (20_000 * s .0) (lnOf v Vref) →
       record { gain = n; loss = e } ≡ linearOf s v
   unfolding linearOf
-  linear-fast h term = rw (le-ltb v vrefTenths h, term, none) refl
+  linear-fast h term = rw (le-ltb v Vref h, term, none) refl
 
-pub slow-is : (s : SiteRow) (v : ℕ) {l ratio term b2 n : Ends} → l ≡ lnOf v2Tenths v → ratio ≡ productOf l overSlow →
+pub slow-is : (s : SiteRow) (v : ℕ) {l ratio term b2 n : Ends} → l ≡ lnOf V2 v → ratio ≡ productOf l overSlow →
     term ≡ multipleOf (20_000 * (s .1 - 10 * s .2)) ratio → b2 ≡ exactly (10_000_000 * s .2) → n ≡ sumOf term b2 →
     n ≡ slowSlopeOf s v
 unfolding slowSlopeOf
 slow-is s v l ratio term b2 n = rw (n, term, b2, ratio, l) refl
 
--- the size of ln(V/760) is that of ln(760/V) below 760 m/s
-pub velocity-slow : (v : ℕ) → v < vrefTenths → velocityLnOf v ≡ lnOf vrefTenths v
-unfolding velocityLnOf
-velocity-slow v h = rw (lt-ltb v vrefTenths h) refl
+-- the absolute value of ln(V/760) is that of ln(760/V) below 760 m/s
+pub vs30-slow : (v : ℕ) → v < Vref → vs30LnOf v ≡ lnOf Vref v
+unfolding vs30LnOf
+vs30-slow v h = rw (lt-ltb v Vref h) refl
 
-pub velocity-fast : (v : ℕ) → vrefTenths ≤ v → velocityLnOf v ≡ lnOf v vrefTenths
-unfolding velocityLnOf
-velocity-fast v h = rw (le-ltb v vrefTenths h) refl
+pub vs30-fast : (v : ℕ) → Vref ≤ v → vs30LnOf v ≡ lnOf v Vref
+unfolding vs30LnOf
+vs30-fast v h = rw (le-ltb v Vref h) refl
 
-pub fast-is : (s : SiteRow) (v : ℕ) {l ratio n : Ends} → l ≡ lnOf vrefTenths v → ratio ≡ productOf l overFast →
+pub fast-is : (s : SiteRow) (v : ℕ) {l ratio n : Ends} → l ≡ lnOf Vref v → ratio ≡ productOf l overFast →
     n ≡ multipleOf (200_000 * s .2) ratio → n ≡ fastSlopeOf s v
 unfolding fastSlopeOf
 fast-is s v l ratio n = rw (n, ratio, l) refl
 
 module _ (s : SiteRow) (v : ℕ) {n : Ends} where
-  pub slope-up-to-180 : v ≤ v1Tenths → n ≡ exactly (1_000_000 * s .1) → n ≡ slopeOf s v
+  pub slope-up-to-180 : v ≤ V1 → n ≡ exactly (1_000_000 * s .1) → n ≡ slopeOf s v
   unfolding slopeOf
-  slope-up-to-180 h e = rw (le-leb v v1Tenths h) e
+  slope-up-to-180 h e = rw (le-leb v V1 h) e
 
-  pub slope-up-to-300 : v1Tenths < v → v ≤ v2Tenths → n ≡ slowSlopeOf s v → n ≡ slopeOf s v
+  pub slope-up-to-300 : V1 < v → v ≤ V2 → n ≡ slowSlopeOf s v → n ≡ slopeOf s v
   unfolding slopeOf
-  slope-up-to-300 g h e = rw (lt-leb v v1Tenths g, le-leb v v2Tenths h) e
+  slope-up-to-300 g h e = rw (lt-leb v V1 g, le-leb v V2 h) e
 
-  pub slope-below-760 : v1Tenths < v → v2Tenths < v → v < vrefTenths → n ≡ fastSlopeOf s v → n ≡ slopeOf s v
+  pub slope-below-760 : V1 < v → V2 < v → v < Vref → n ≡ fastSlopeOf s v → n ≡ slopeOf s v
   unfolding slopeOf
-  slope-below-760 f g h e = rw (lt-leb v v1Tenths f, lt-leb v v2Tenths g, lt-ltb v vrefTenths h) e
+  slope-below-760 f g h e = rw (lt-leb v V1 f, lt-leb v V2 g, lt-ltb v Vref h) e
 
-  pub slope-from-760 : v1Tenths < v → v2Tenths < v → vrefTenths ≤ v → n ≡ exactly 0 → n ≡ slopeOf s v
+  pub slope-from-760 : V1 < v → V2 < v → Vref ≤ v → n ≡ exactly 0 → n ≡ slopeOf s v
   unfolding slopeOf
-  slope-from-760 f g h e = rw (lt-leb v v1Tenths f, lt-leb v v2Tenths g, le-ltb v vrefTenths h) e
+  slope-from-760 f g h e = rw (lt-leb v V1 f, lt-leb v V2 g, le-ltb v Vref h) e
 
 pub z-is : (b : Ends) {low high : ℕ} → low ≡ min (b .high) (minusLnA1 .low) → high ≡ max (b .low) (minusLnA2 .low) →
     record { low = minusLnA1 .low - low; high = minusLnA1 .high - high } ≡ zOf b
@@ -162,35 +162,35 @@ unfolding productOf
 product-of-none q = rw (zero-mul (q .low), zero-mul (q .high)) refl
 
 -- from 760 m/s on the nonlinear part is the same for every p
-flat : (s : SiteRow) (v : ℕ) (b c : Ends) → vrefTenths ≤ v → nonlinearOf s v b ≡ nonlinearOf s v c
+flat : (s : SiteRow) (v : ℕ) (b c : Ends) → Vref ≤ v → nonlinearOf s v b ≡ nonlinearOf s v c
 unfolding nonlinearOf
 flat s v b c h =
     let none = slope-from-760 s v (omega arith) (omega arith) h refl in
     rw (← none, product-of-none (curveOf b), product-of-none (curveOf c)) refl
 
-pub below-for : (s : SiteRow) (v m d mechanism : ℕ) →
-    nonlinearOf s v (belowFor v m d mechanism) ≡ nonlinearOf s v (belowOf m d mechanism)
-unfolding belowFor
-below-for s v m d mechanism = go (leb flatFrom v) refl where
-  go : (t : Bool) → leb flatFrom v ≡ t → nonlinearOf s v (cond t (exactly 0) (belowOf m d mechanism))
-      ≡ nonlinearOf s v (belowOf m d mechanism)
+pub minus-p-for : (s : SiteRow) (v m d mechanism : ℕ) →
+    nonlinearOf s v (minusPFor v m d mechanism) ≡ nonlinearOf s v (minusPOf m d mechanism)
+unfolding minusPFor
+minus-p-for s v m d mechanism = go (leb flatFrom v) refl where
+  go : (t : Bool) → leb flatFrom v ≡ t → nonlinearOf s v (cond t (exactly 0) (minusPOf m d mechanism))
+      ≡ nonlinearOf s v (minusPOf m d mechanism)
   go true e =
       let h = leb→le flatFrom v (rw e tt) in
-      flat s v (exactly 0) (belowOf m d mechanism) (omega arith)
+      flat s v (exactly 0) (minusPOf m d mechanism) (omega arith)
   go false e = refl
 
 -- ---- the sum
 
 pub median-is : (r : Row) (m d v mechanism : ℕ) {c : DistanceRow} {q : MagnitudeRow} {s : SiteRow} {effective :
     EffectiveDistance} {b : Ends}
-    {rock linear nonlinear : Motion} → c ≡ distanceParts (r .distance) → q ≡ magnitudeParts (r .magnitude) →
+    {rock linear nonlinear : SignedPair} → c ≡ distanceParts (r .distance) → q ≡ magnitudeParts (r .magnitude) →
     s ≡ siteParts (r .site) → effective ≡ effectiveOf d (c .4) → rock ≡ rockOf c q m effective mechanism →
     linear ≡ linearOf s v →
-    b ≡ belowFor v m d mechanism → nonlinear ≡ nonlinearOf s v b →
+    b ≡ minusPFor v m d mechanism → nonlinear ≡ nonlinearOf s v b →
     endsOf (plusOf (plusOf rock linear) nonlinear) ≡ medianOf r m d v mechanism
 unfolding medianOf
 median-is r m d v mechanism {s = row} c q s effective rock linear b nonlinear =
-    rw (rock, linear, nonlinear, effective, b, below-for row v m d mechanism, c, q, s) refl
+    rw (rock, linear, nonlinear, effective, b, minus-p-for row v m d mechanism, c, q, s) refl
 
 pub sigma-is : (t : Total) (mechanism : ℕ) {r : TotalRow} {z : ℕ} → r ≡ totalParts t → z ≡ cond (eqb mechanism 9) (r .0)
     (r .1) →

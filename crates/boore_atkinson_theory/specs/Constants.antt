@@ -1,17 +1,7 @@
--- The site term's constant numbers: velocities, and pairs of units of 10^-9. proofs/Constants shows, by one computed
+-- The site term's constant pairs, in units of 10^-9. proofs/Constants shows, by one computed
 -- test, that they hold what they stand for.
 use Prim.Native.Nat.{ℕ}
 use Rattle.logarithm_theory.specs.declared.Ends.{Ends}
-
--- Table 4's velocities in the field's tenths of a m/s: 180, 300 and 760 m/s
-abbrev pub v1Tenths : ℕ
-v1Tenths = 1_800
-
-abbrev pub v2Tenths : ℕ
-v2Tenths = 3_000
-
-abbrev pub vrefTenths : ℕ
-vrefTenths = 7_600
 
 abbrev pair : ℕ → ℕ → Ends
 pair low high = record { low = low; high = high }

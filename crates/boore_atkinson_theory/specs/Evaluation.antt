@@ -8,17 +8,17 @@ use Rattle.signed_theory.specs.Evaluation.{betweenOf}
 use Rattle.logarithm_theory.specs.declared.Ends.{Ends}
 use Rattle.logarithm_theory.specs.Evaluation.{lnOf, rootOf}
 use Rattle.outward_theory.specs.Evaluation.{multipleOf, productOf, sumOf, spanOf}
-use Rattle.boore_atkinson_theory.specs.declared.Motion.{Motion}
+use Rattle.boore_atkinson_theory.specs.declared.SignedPair.{SignedPair}
 use Rattle.boore_atkinson_theory.specs.declared.EffectiveDistance.{EffectiveDistance}
 use Rattle.boore_atkinson_theory.specs.declared.Exact.{Exact}
 use Rattle.boore_atkinson_theory.specs.declared.SiteRow.{SiteRow}
 use Rattle.boore_atkinson_theory.specs.declared.DistanceRow.{DistanceRow}
 use Rattle.boore_atkinson_theory.specs.declared.MagnitudeRow.{MagnitudeRow}
-use Rattle.boore_atkinson_theory.specs.Tables.{Total, SiteAmplification, Row, pga}
+use Rattle.boore_atkinson_theory.specs.Tables.{Total, SiteAmplification, Row, Vref, V2, V1}
+use Rattle.boore_atkinson_theory.specs.Rows.{pga, siteParts, distanceParts, magnitudeParts, totalParts}
 use Rattle.boore_atkinson_theory.specs.Rock.{sumOfSquares}
-use Rattle.boore_atkinson_theory.specs.Rows.{siteParts, distanceParts, magnitudeParts}
 use Rattle.boore_atkinson_theory.specs.Constants.{minusLnLow, minusLnA1, minusLnA2, lnTen, overSlow, overFast}
-use Rattle.boore_atkinson_theory.specs.Constants.{vrefTenths, v2Tenths, v1Tenths, cOver, dOver}
+use Rattle.boore_atkinson_theory.specs.Constants.{cOver, dOver}
 
 -- equal ends
 abbrev pub exactly : ℕ → Ends
@@ -58,7 +58,7 @@ magnitudeOf r m mechanism =
     record { gain = e .gain; loss = e .loss + 100 * (r .8 * (r .11 - m)) + r .9 * ((r .11 - m) * (r .11 - m)) }
     record { gain = e .gain + 100 * (r .10 * (m - r .11)); loss = e .loss }
 
-unfoldable pub rockOf : DistanceRow → MagnitudeRow → ℕ → EffectiveDistance → ℕ → Motion
+unfoldable pub rockOf : DistanceRow → MagnitudeRow → ℕ → EffectiveDistance → ℕ → SignedPair
 rockOf r q m s mechanism =
     let f : Ends = fallOf r m s in
     let g : Exact = magnitudeOf q m mechanism in
@@ -68,39 +68,39 @@ rockOf r q m s mechanism =
     }
 
 -- −p
-unfoldable pub belowOf : ℕ → ℕ → ℕ → Ends
-belowOf m d mechanism =
-    let a : Motion =
+unfoldable pub minusPOf : ℕ → ℕ → ℕ → Ends
+minusPOf m d mechanism =
+    let a : SignedPair =
     rockOf (distanceParts (pga .distance)) (magnitudeParts (pga .magnitude)) m
     (effectiveOf d (pga .distance .h)) mechanism in
     record { low = a .loss .low - a .gain .low; high = a .loss .high - a .gain .low }
 
 -- ---- the site term
 
--- the size of ln(V/760)
-unfoldable pub velocityLnOf : ℕ → Ends
-velocityLnOf v = cond (ltb v vrefTenths) (lnOf vrefTenths v) (lnOf v vrefTenths)
+-- the absolute value of ln(V/760)
+unfoldable pub vs30LnOf : ℕ → Ends
+vs30LnOf v = cond (ltb v Vref) (lnOf Vref v) (lnOf v Vref)
 
-unfoldable pub linearOf : SiteRow → ℕ → Motion
+unfoldable pub linearOf : SiteRow → ℕ → SignedPair
 linearOf s v =
-    cond (ltb v vrefTenths)
-    record { gain = multipleOf (20_000 * s .0) (lnOf vrefTenths v); loss = exactly 0 }
-    record { gain = exactly 0; loss = multipleOf (20_000 * s .0) (lnOf v vrefTenths) }
+    cond (ltb v Vref)
+    record { gain = multipleOf (20_000 * s .0) (lnOf Vref v); loss = exactly 0 }
+    record { gain = exactly 0; loss = multipleOf (20_000 * s .0) (lnOf v Vref) }
 
 -- −bnl from 180 to 300 m/s, and from 300 to 760
 unfoldable pub slowSlopeOf : SiteRow → ℕ → Ends
 slowSlopeOf s v =
-    sumOf (multipleOf (20_000 * (s .1 - 10 * s .2)) (productOf (lnOf v2Tenths v) overSlow))
+    sumOf (multipleOf (20_000 * (s .1 - 10 * s .2)) (productOf (lnOf V2 v) overSlow))
     (exactly (10_000_000 * s .2))
 
 unfoldable pub fastSlopeOf : SiteRow → ℕ → Ends
-fastSlopeOf s v = multipleOf (200_000 * s .2) (productOf (lnOf vrefTenths v) overFast)
+fastSlopeOf s v = multipleOf (200_000 * s .2) (productOf (lnOf Vref v) overFast)
 
 -- −bnl
 unfoldable pub slopeOf : SiteRow → ℕ → Ends
 slopeOf s v =
-    cond (leb v v1Tenths) (exactly (1_000_000 * s .1))
-    (cond (leb v v2Tenths) (slowSlopeOf s v) (cond (ltb v vrefTenths) (fastSlopeOf s v) (exactly 0)))
+    cond (leb v V1) (exactly (1_000_000 * s .1))
+    (cond (leb v V2) (slowSlopeOf s v) (cond (ltb v Vref) (fastSlopeOf s v) (exactly 0)))
 
 -- z = p − ln 0.03 in the middle branch, where p is above ln 0.03 and up to ln 0.09
 unfoldable pub zOf : Ends → Ends
@@ -127,38 +127,38 @@ branchOf b t A B = cond (leb (t .low) (b .high)) (cond (ltb (b .low) (t .high)) 
 unfoldable pub curveOf : Ends → Ends
 curveOf b = branchOf b minusLnA1 (exactly 0) (branchOf b minusLnA2 (cubicOf (zOf b)) (straightOf b))
 
-unfoldable pub nonlinearOf : SiteRow → ℕ → Ends → Motion
+unfoldable pub nonlinearOf : SiteRow → ℕ → Ends → SignedPair
 nonlinearOf s v b =
     let n : Ends = slopeOf s v in
     record { gain = productOf n minusLnLow; loss = productOf n (curveOf b) }
 
 -- −p as the median rests on it: from here on the slope is 0, and nothing depends on p
 abbrev pub flatFrom : ℕ
-flatFrom = vrefTenths
+flatFrom = Vref
 
-unfoldable pub belowFor : ℕ → ℕ → ℕ → ℕ → Ends
-belowFor v m d mechanism = cond (leb flatFrom v) (exactly 0) (belowOf m d mechanism)
+unfoldable pub minusPFor : ℕ → ℕ → ℕ → ℕ → Ends
+minusPFor v m d mechanism = cond (leb flatFrom v) (exactly 0) (minusPOf m d mechanism)
 
 -- ---- sums
 
-unfoldable pub endsOf : Motion → signed.Ends
+unfoldable pub endsOf : SignedPair → signed.Ends
 endsOf a = betweenOf (a .gain .low) (a .loss .high) (a .gain .high) (a .loss .low)
 
-unfoldable pub plusOf : Motion → Motion → Motion
+unfoldable pub plusOf : SignedPair → SignedPair → SignedPair
 plusOf a b = record { gain = sumOf (a .gain) (b .gain); loss = sumOf (a .loss) (b .loss) }
 
 unfoldable pub medianOf : Row → ℕ → ℕ → ℕ → ℕ → signed.Ends
 medianOf r m d v mechanism =
-    let rock : Motion =
+    let rock : SignedPair =
     rockOf (distanceParts (r .distance)) (magnitudeParts (r .magnitude)) m
     (effectiveOf d (r .distance .h)) mechanism in
     let s : SiteRow = siteParts (r .site) in
-    endsOf (plusOf (plusOf rock (linearOf s v)) (nonlinearOf s v (belowOf m d mechanism)))
+    endsOf (plusOf (plusOf rock (linearOf s v)) (nonlinearOf s v (minusPOf m d mechanism)))
 
 unfoldable pub nonlinearEndsOf : SiteAmplification → ℕ → Ends → signed.Ends
 nonlinearEndsOf s v b = endsOf (nonlinearOf (siteParts s) v b)
 
 unfoldable pub sigmaOf : Total → ℕ → signed.Ends
 sigmaOf t mechanism =
-    let z : ℕ = 1_000_000 * cond (eqb mechanism 9) (t .σTU) (t .σTM) in
+    let z : ℕ = 1_000_000 * cond (eqb mechanism 9) (totalParts t .0) (totalParts t .1) in
     betweenOf z 0 z 0

@@ -1,6 +1,7 @@
 pub mod Tables
 pub mod Rock
 pub mod SiteTerm
+pub mod Branches
 pub mod Median
 pub mod Constants
 pub mod Rows

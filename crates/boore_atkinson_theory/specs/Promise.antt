@@ -17,19 +17,19 @@ use Rattle.boore_atkinson_theory.specs.SiteTerm.{bnl, nonlinearPart}
 use Rattle.boore_atkinson_theory.specs.Median.{median, sigma}
 
 -- the arguments of the median: a row of the tables, and numbers within the limits of the model
-pub record MedianDomain (k magnitude projectionDistance velocity : ℕ) : Type 0 where
+pub record MedianDomain (k magnitude projectionDistance vs30 : ℕ) : Type 0 where
   pub row : k < rowCount
   pub magnitude-low : booreAtkinson .magnitude .low ≤ magnitude
   pub magnitude-high : magnitude ≤ booreAtkinson .magnitude .high
   pub near : projectionDistance ≤ booreAtkinson .distance .high
-  pub slow : booreAtkinson .velocity .low ≤ velocity
-  pub fast : velocity ≤ booreAtkinson .velocity .high
+  pub slow : booreAtkinson .velocity .low ≤ vs30
+  pub fast : vs30 ≤ booreAtkinson .velocity .high
 
 -- the arguments of the nonlinear part: −p lies between the ends of b, so that p is at most 0
-pub record NonlinearDomain (k velocity : ℕ) (b : natural.Ends) : Type 0 where
+pub record NonlinearDomain (k vs30 : ℕ) (b : natural.Ends) : Type 0 where
   pub row : k < rowCount
-  pub slow : booreAtkinson .velocity .low ≤ velocity
-  pub fast : velocity ≤ booreAtkinson .velocity .high
+  pub slow : booreAtkinson .velocity .low ≤ vs30
+  pub fast : vs30 ≤ booreAtkinson .velocity .high
   pub order : b .low ≤ b .high
 
 -- how far the ends of the median are apart at most; demand 3 allows 2,000
@@ -44,16 +44,16 @@ abbrev pub nonlinearWidth : ℕ
 nonlinearWidth = 42
 
 -- e encloses the median by the row r, at every fineness, is narrow, and has ends that a double equals
-pub record MedianEnds (r : Row) (magnitude projectionDistance velocity mechanism : ℕ) (e : Ends) : Type 0 where
-  pub encloses : Encloses (ends (e .low) (e .high)) (median r magnitude projectionDistance velocity mechanism)
+pub record MedianEnds (r : Row) (magnitude projectionDistance vs30 mechanism : ℕ) (e : Ends) : Type 0 where
+  pub encloses : Encloses (ends (e .low) (e .high)) (median r magnitude projectionDistance vs30 mechanism)
   pub narrow : e .high ≤ℤ (e .low +ℤ pos medianWidth)
   pub small : SmallerThan (2 ^ 53) e
 
 -- e encloses the nonlinear part for every p of a pair, at every fineness, is narrow where p is, and has ends that a
 -- double equals
-pub record NonlinearEnds (s : SiteAmplification) (velocity : ℕ) (b : natural.Ends) (e : Ends) : Type 0 where
+pub record NonlinearEnds (s : SiteAmplification) (vs30 : ℕ) (b : natural.Ends) (e : Ends) : Type 0 where
   pub encloses : (p : Fraction) → p ∈ ends (negℤ (pos (b .high))) (negℤ (pos (b .low))) →
-      Encloses (ends (e .low) (e .high)) (nonlinearPart (bnl s velocity) (stated p))
+      Encloses (ends (e .low) (e .high)) (nonlinearPart (bnl s vs30) (stated p))
   pub narrow : b .high ≤ b .low + rockWidth → e .high ≤ℤ (e .low +ℤ pos nonlinearWidth)
   pub small : SmallerThan (2 ^ 53) e
 

@@ -1,7 +1,7 @@
 -- What the steps of the evaluation promise one another of their sizes.
 use Prim.Native.Nat.{ℕ, _+_, _*_, _-_, _≤_}
 use Rattle.outward_theory.specs.Evaluation.{Sized}
-use Rattle.boore_atkinson_theory.specs.declared.Motion.{Motion}
+use Rattle.boore_atkinson_theory.specs.declared.SignedPair.{SignedPair}
 use Rattle.boore_atkinson_theory.specs.declared.EffectiveDistance.{EffectiveDistance}
 use Rattle.boore_atkinson_theory.specs.declared.Exact.{Exact}
 use Rattle.boore_atkinson_theory.specs.declared.MagnitudeRow.{MagnitudeRow}
@@ -26,7 +26,7 @@ pub record Small (e : Exact) (b : ℕ) : Type 0 where
   pub loss : e .loss ≤ b
 
 -- both parts are at most w wide together, and at most b each
-pub record MotionSized (a : Motion) (w b : ℕ) : Type 0 where
+pub record SignedSized (a : SignedPair) (w b : ℕ) : Type 0 where
   pub gain : Sized (a .gain) w b
   pub loss : Sized (a .loss) w b
   pub together : a .gain .high + a .loss .high ≤ a .gain .low + a .loss .low + w

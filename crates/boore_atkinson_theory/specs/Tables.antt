@@ -4,22 +4,23 @@
 use mathlib.Core.List.{List, [], _∷_}
 use Prim.Native.Nat.{ℕ}
 use lib.IntN.{ℤ, pos, negℤ}
-use lib.ListN.{getD}
-use Rattle.scenario_theory.specs.Refusal.{booreAtkinsonRow}
+use Rattle.toolbox_theory.specs.Lists.{lookup}
+use Rattle.exact_theory.specs.Fraction.{Fraction, _over_}
 
 abbrev neg : ℕ → ℤ
 neg n = negℤ (pos n)
 
--- ---- Table 3, "Period-dependent site-amplification coefficients": blin and b1 in 10^-3, b2 in 10^-2
+-- ---- Table 3, "Period-dependent site-amplification coefficients"
 
 pub record SiteAmplification : Type 0 where
   pub period : ℕ
-  pub blin : ℤ
-  pub b1 : ℤ
-  pub b2 : ℤ
+  pub blin : Fraction
+  pub b1 : Fraction
+  pub b2 : Fraction
 
-abbrev site : ℕ → ℤ → ℤ → ℤ → SiteAmplification
-site period blin b1 b2 = record { period = period; blin = blin; b1 = b1; b2 = b2 }
+-- of the printed digits: blin and b1 have three decimals, b2 two
+abbrev pub site : ℕ → ℤ → ℤ → ℤ → SiteAmplification
+site period blin b1 b2 = record { period = period; blin = blin over 1_000; b1 = b1 over 1_000; b2 = b2 over 100 }
 
 -- b2 at 0.2 s "is −0.19" (document 01, 'The site term')
 abbrev pub table3 : List SiteAmplification
@@ -49,8 +50,9 @@ table3 =
     site 10000 (neg 650) (neg 215) (pos 0) ∷
     []
 
--- ---- Table 4, "Period-independent site-amplification coefficients": hundredths of g, and m/s
+-- ---- Table 4, the site-amplification coefficients that do not depend on the period
 
+-- a1, pga_low and a2, in hundredths of g
 abbrev pub a1 : ℕ
 a1 = 3
 
@@ -60,26 +62,37 @@ pgaLow = 6
 abbrev pub a2 : ℕ
 a2 = 9
 
-abbrev pub v1 : ℕ
-v1 = 180
+-- V1, V2 and Vref, 180, 300 and 760 m/s, in the field's tenths
+abbrev pub V1 : ℕ
+V1 = 1_800
 
-abbrev pub v2 : ℕ
-v2 = 300
+abbrev pub V2 : ℕ
+V2 = 3_000
 
-abbrev pub vref : ℕ
-vref = 760
+abbrev pub Vref : ℕ
+Vref = 7_600
 
--- ---- Table 6, "Distance-scaling coefficients": c1, c2 and c3 in 10^-5, h in hundredths of a km
+-- ---- Table 6, "Distance-scaling coefficients"
 
+-- h in hundredths of a km
 pub record DistanceScaling : Type 0 where
   pub period : ℕ
-  pub c1 : ℤ
-  pub c2 : ℤ
-  pub c3 : ℤ
+  pub c1 : Fraction
+  pub c2 : Fraction
+  pub c3 : Fraction
   pub h : ℕ
 
-abbrev distance : ℕ → ℤ → ℤ → ℤ → ℕ → DistanceScaling
-distance period c1 c2 c3 h = record { period = period; c1 = c1; c2 = c2; c3 = c3; h = h }
+-- of the printed digits: c1, c2 and c3 have five decimals, h two
+abbrev pub distance : ℕ → ℤ → ℤ → ℤ → ℕ → DistanceScaling
+distance period c1 c2 c3 h =
+    record { period = period; c1 = c1 over 100_000; c2 = c2 over 100_000; c3 = c3 over 100_000; h = h }
+
+-- its caption and document 01, 'Boore-Atkinson on rock': "Mref 4.5, Rref 1 km"
+abbrev pub Mref : Fraction
+Mref = pos 45 over 10
+
+abbrev pub Rref : Fraction
+Rref = pos 1 over 1
 
 abbrev pub table6 : List DistanceScaling
 table6 =
@@ -108,30 +121,32 @@ table6 =
     distance 10000 (neg 9824) (neg 13800) (neg 191) 304 ∷
     []
 
--- ---- Table 7, "Magnitude-scaling coefficients": e1 to e7 in 10^-5, the hinge magnitude Mh in hundredths
+-- ---- Table 7, "Magnitude-scaling coefficients"
 
+-- Mh is the hinge magnitude
 pub record MagnitudeScaling : Type 0 where
   pub period : ℕ
-  pub e1 : ℤ
-  pub e2 : ℤ
-  pub e3 : ℤ
-  pub e4 : ℤ
-  pub e5 : ℤ
-  pub e6 : ℤ
-  pub e7 : ℤ
-  pub Mh : ℕ
+  pub e1 : Fraction
+  pub e2 : Fraction
+  pub e3 : Fraction
+  pub e4 : Fraction
+  pub e5 : Fraction
+  pub e6 : Fraction
+  pub e7 : Fraction
+  pub Mh : Fraction
 
-abbrev magnitude : ℕ → ℤ → ℤ → ℤ → ℤ → ℤ → ℤ → ℤ → ℕ → MagnitudeScaling
+-- of the printed digits: e1 to e7 have five decimals, Mh two
+abbrev pub magnitude : ℕ → ℤ → ℤ → ℤ → ℤ → ℤ → ℤ → ℤ → ℕ → MagnitudeScaling
 magnitude period e1 e2 e3 e4 e5 e6 e7 Mh = record {
   period = period;
-  e1 = e1;
-  e2 = e2;
-  e3 = e3;
-  e4 = e4;
-  e5 = e5;
-  e6 = e6;
-  e7 = e7;
-  Mh = Mh;
+  e1 = e1 over 100_000;
+  e2 = e2 over 100_000;
+  e3 = e3 over 100_000;
+  e4 = e4 over 100_000;
+  e5 = e5 over 100_000;
+  e6 = e6 over 100_000;
+  e7 = e7 over 100_000;
+  Mh = pos Mh over 100;
 }
 
 abbrev pub table7 : List MagnitudeScaling
@@ -161,15 +176,16 @@ table7 =
     magnitude 10000 (neg 215446) (neg 216137) (neg 253323) (neg 214635) (pos 40387) (neg 48492) (pos 0) 850 ∷
     []
 
--- ---- Table 8, "Aleatory uncertainties": the totals σTU, "fault type unspecified", and σTM, "specified", in 10^-3
+-- ---- Table 8, "Aleatory uncertainties": the totals σTU, "fault type unspecified", and σTM, "specified"
 
 pub record Total : Type 0 where
   pub period : ℕ
-  pub σTU : ℕ
-  pub σTM : ℕ
+  pub σTU : Fraction
+  pub σTM : Fraction
 
-abbrev total : ℕ → ℕ → ℕ → Total
-total period σTU σTM = record { period = period; σTU = σTU; σTM = σTM }
+-- of the printed digits: both have three decimals
+abbrev pub total : ℕ → ℕ → ℕ → Total
+total period σTU σTM = record { period = period; σTU = pos σTU over 1_000; σTM = pos σTM over 1_000 }
 
 abbrev pub table8 : List Total
 table8 =
@@ -198,32 +214,32 @@ table8 =
     total 10000 735 801 ∷
     []
 
--- ---- the rows of a period, counted from 0 at PGA
+-- ---- the rows that are printed with a period; "Period 0 uses the row PGA" ('Boore-Atkinson on rock')
 
 pub record Row : Type 0 where
   pub site : SiteAmplification
   pub distance : DistanceScaling
   pub magnitude : MagnitudeScaling
 
--- row k of Tables 3, 6 and 7
-unfoldable pub rowAt : ℕ → Row
-rowAt k = record {
-  site = getD table3 k (site 0 (pos 0) (pos 0) (pos 0));
-  distance = getD table6 k (distance 0 (pos 0) (pos 0) (pos 0) 0);
-  magnitude = getD table7 k (magnitude 0 (pos 0) (pos 0) (pos 0) (pos 0) (pos 0) (pos 0) (pos 0) 0);
+-- where no row is printed with a period; no table has a row for 0.001 s
+abbrev pub noRow : Row
+noRow = record {
+  site = site 1 (pos 0) (pos 0) (pos 0);
+  distance = distance 1 (pos 0) (pos 0) (pos 0) 0;
+  magnitude = magnitude 1 (pos 0) (pos 0) (pos 0) (pos 0) (pos 0) (pos 0) (pos 0) 0;
 }
 
--- row k of Table 8
-unfoldable pub totalAt : ℕ → Total
-totalAt k = getD table8 k (total 0 0 0)
-
--- the rows of a period
+-- of Tables 3, 6 and 7
 unfoldable pub rowFor : ℕ → Row
-rowFor period = rowAt (booreAtkinsonRow period)
+rowFor period = record {
+  site = lookup (λ r. r .period) (noRow .site) table3 period;
+  distance = lookup (λ r. r .period) (noRow .distance) table6 period;
+  magnitude = lookup (λ r. r .period) (noRow .magnitude) table7 period;
+}
+
+-- of Table 8
+abbrev pub noTotal : Total
+noTotal = total 1 0 0
 
 unfoldable pub totalFor : ℕ → Total
-totalFor period = totalAt (booreAtkinsonRow period)
-
--- "the row PGA"
-abbrev pub pga : Row
-pga = rowAt 0
+totalFor period = lookup (λ r. r .period) noTotal table8 period

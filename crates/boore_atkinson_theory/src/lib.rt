@@ -2,7 +2,7 @@
 use logarithm_theory::Ends;
 
 // Something between the gain's ends, less something between the loss's.
-pub struct Motion {
+pub struct SignedPair {
     pub gain: Ends,
     pub loss: Ends,
 }

@@ -10,8 +10,9 @@ use Rattle.outward_theory.specs.Evaluation.{Sized}
 use Rattle.outward_theory.proofs.Laws.{ln-sized, multiple-sized}
 use Rattle.idriss_theory.specs.declared.Row.{Row}
 use Rattle.idriss_theory.specs.Median.{F}
-use Rattle.idriss_theory.specs.Evaluation.{RowLimits, AlphaDomain, alphaSum, betaOf, gainsOf, lossesOf}
-use Rattle.idriss_theory.specs.Evaluation.{velocityCap, distanceTermOf, siteTermOf}
+use Rattle.idriss_theory.specs.Evaluation.{AlphaDomain, alphaSum, betaOf, gainsOf, lossesOf}
+use Rattle.idriss_theory.specs.Rows.{RowLimits}
+use Rattle.idriss_theory.specs.Evaluation.{vs30Cap, distanceTermOf, siteTermOf}
 
 pub alpha-domain : {a1 a2 a3 m : ℕ} → a1 ≤ 120_000 → a2 ≤ 20_000 → a3 ≤ 1_000 → m ≤ 790 → AlphaDomain a1 a2 a3 m
 alpha-domain {m = m} h1 h2 h3 hm =
@@ -66,7 +67,7 @@ beta-bounds {r} l low high =
 pub far-domain : {d : ℕ} → d ≤ 17_500 → LnDomain (d + 1_000) 100
 far-domain h = record { least = omega arith; order = omega arith; small = omega arith }
 
-pub site-domain : {v : ℕ} → 4_500 ≤ v → LnDomain (min v velocityCap) 10
+pub site-domain : {v : ℕ} → 4_500 ≤ v → LnDomain (min v vs30Cap) 10
 site-domain h = record { least = omega arith; order = omega arith; small = omega arith }
 
 pub distance-sized : {r : Row} {m d : ℕ} → RowLimits r → 450 ≤ m → m ≤ 790 → d ≤ 17_500 →

@@ -15,12 +15,12 @@ use Rattle.logarithm_theory.specs.Promise.{LnDomain, lnWidth}
 use Rattle.logarithm_theory.specs.Evaluation.{scaledOf, nearOneOf, mantissaLnOf, scaledLnOf, lnOf}
 use Rattle.outward_theory.specs.Evaluation.{Sized}
 use Rattle.outward_theory.proofs.Laws.{ln-sized, multiple-sized}
-use Rattle.scenario_theory.specs.Refusal.{idriss, idrissRow}
-use Rattle.scenario_theory.specs.Rows.{rowCount}
+use Rattle.scenario_theory.specs.Refusal.{idriss}
+use Rattle.scenario_theory.specs.Rows.{idrissRow, rowCount}
 use Rattle.idriss_theory.specs.Periods.{listedAt, periodLogarithm}
-use Rattle.idriss_theory.specs.Evaluation.{periodTermOf, heldPeriod}
+use Rattle.idriss_theory.specs.Evaluation.{periodTermOf, clampedPeriod}
 
--- the engine's ends of the size of ln T, T in thousandths
+-- the engine's ends of the absolute value of ln T, T in thousandths
 abbrev pub ownLn : ℕ → Ends
 ownLn t = lnOf (max t 1_000) (min t 1_000)
 
@@ -69,7 +69,7 @@ term-sized l = multiple-sized 700_000 (listed-sized l) 1 735_000_000 (omega arit
 
 -- 0 or a tabled period, held to the range of sigma, is a tabled period
 abbrev stays : ℕ → Bool
-stays t = among (idriss .periods) (heldPeriod t)
+stays t = among (idriss .periods) (clampedPeriod t)
 
 stays-tabled : T (all stays (0 ∷ idriss .periods))
 stays-tabled = tt
@@ -78,5 +78,5 @@ truly : (b : Bool) → T b → b ≡ true
 truly true t = refl
 truly false t = absurd t
 
-pub held-tabled : (t : ℕ) → among (0 ∷ idriss .periods) t ≡ true → among (idriss .periods) (heldPeriod t) ≡ true
-held-tabled t e = truly (stays t) (all-at stays (0 ∷ idriss .periods) t stays-tabled e)
+pub clamped-tabled : (t : ℕ) → among (0 ∷ idriss .periods) t ≡ true → among (idriss .periods) (clampedPeriod t) ≡ true
+clamped-tabled t e = truly (stays t) (all-at stays (0 ∷ idriss .periods) t stays-tabled e)

@@ -1,20 +1,22 @@
--- Signs and sizes of the coefficients: one test over all rows of both tables. And the row for a period is
--- the one that the paper prints for it.
-use mathlib.Core.Path.{_≡_}
-use mathlib.Core.Bool.{Bool, true, false, cond}
-use mathlib.Core.List.{List, [], _∷_}
+-- Signs, sizes and decimals of the coefficients: one test over all rows of both tables. And the row for a period is the
+-- row in the place that the code looks up.
+use mathlib.Core.Path.{_≡_, refl}
+use mathlib.Core.Bool.{Bool, true, false, false≢true, cond}
+use mathlib.Core.List.{List, [], _∷_, map}
 use Prim.Native.Nat.{ℕ, _+_, _*_, _<_}
 use native.Mathlib.Omega.{arith}
-use lib.Dec.{T, eqb, eqb→eq}
+use borrow.Author.Tests.{eqb-true}
+use lib.Dec.{eqb}
 use Rattle.toolbox_theory.specs.Whole.{up, down}
-use Rattle.toolbox_theory.specs.Lists.{among}
-use Rattle.toolbox_theory.proofs.Tests.{AllLe, WithinLimits, row-within}
-use Rattle.toolbox_theory.proofs.ListLaws.{all, all-at}
-use Rattle.scenario_theory.specs.Refusal.{idriss, idrissRow}
-use Rattle.scenario_theory.specs.Rows.{rowCount}
+use Rattle.toolbox_theory.specs.Lists.{among, lookup}
+use Rattle.toolbox_theory.proofs.Tests.{AllLe, equal, WithinLimits, row-within}
+use Rattle.toolbox_theory.proofs.ListLaws.{lookup-at, lookup-key}
+use Rattle.exact_theory.specs.Fraction.{_over_}
+use Rattle.scenario_theory.specs.Refusal.{idriss}
+use Rattle.scenario_theory.specs.Rows.{idrissRow, rowCount}
 use Rattle.idriss_theory.specs.declared.Row as code
-use Rattle.idriss_theory.specs.Tables.{Row, table2, table3, takesTable3, rowAt, rowFor, ownPeriod}
-use Rattle.idriss_theory.specs.Evaluation.{parts, TableLimits}
+use Rattle.idriss_theory.specs.Tables.{Row, table2, table3, noRow, takesTable3, rowPeriod, rowFor}
+use Rattle.idriss_theory.specs.Rows.{rowAt, parts, TableLimits}
 
 -- the limits, each as two numbers in order
 abbrev limits : Row → List (ℕ × ℕ)
@@ -23,7 +25,10 @@ limits r =
     (p .0, 120_000) ∷ (p .1, 120_000) ∷ (p .2, 20_000) ∷ (p .3, 20_000) ∷ (p .4, 1_000) ∷ (p .5, 1_000) ∷
     (p .6, 30_500) ∷
     (p .7 * 790 + 300_000, 100 * p .6) ∷ (100 * p .6, 2_000_000 + p .7 * 450) ∷ (p .8, 1_500) ∷ (p .9, 100) ∷
-    (p .10, 10) ∷ (down (r .β1), 0) ∷ (up (r .β2), 0) ∷ (up (r .ξ), 0) ∷ (up (r .γ), 0) ∷ (down (r .φ), 0) ∷ []
+    (p .10, 10) ∷ (down (r .β1 .num), 0) ∷ (up (r .β2 .num), 0) ∷ (up (r .ξ .num), 0) ∷ (up (r .γ .num), 0) ∷
+    (down (r .φ .num), 0) ∷
+    equal ((r .α1 .den, 10_000) ∷ (r .α2 .den, 10_000) ∷ (r .α3 .den, 10_000) ∷ (r .β1 .den, 10_000) ∷
+    (r .β2 .den, 10_000) ∷ (r .ξ .den, 1_000) ∷ (r .γ .den, 10_000) ∷ (r .φ .den, 100) ∷ [])
 
 in-order : (r : Row) → AllLe (limits r) → TableLimits r
 in-order r h = record {
@@ -41,6 +46,16 @@ in-order r h = record {
     gamma = omega arith;
     phi = omega arith;
   };
+  decimals = record {
+    alpha1 = omega arith;
+    alpha2 = omega arith;
+    alpha3 = omega arith;
+    beta1 = omega arith;
+    beta2 = omega arith;
+    xi = omega arith;
+    gamma = omega arith;
+    phi = omega arith;
+  };
   beta1-above = omega arith;
   beta2-below = omega arith;
   xi-below = omega arith;
@@ -48,29 +63,50 @@ in-order r h = record {
   phi-above = omega arith;
 }
 
-tables-within : (third : Bool) → WithinLimits limits (cond third table3 table2)
-unfolding up down
+tables-within : (isTable3 : Bool) → WithinLimits limits (cond isTable3 table3 table2)
+unfolding up down _over_
 tables-within true = tt
 tables-within false = tt
 
-pub row-limits : (third : Bool) (k : ℕ) → k < rowCount → TableLimits (rowAt third k)
+pub row-limits : (isTable3 : Bool) (k : ℕ) → k < rowCount → TableLimits (rowAt isTable3 k)
 unfolding rowAt
 row-limits true k h = in-order _ (row-within limits _ table3 (tables-within true) k h)
 row-limits false k h = in-order _ (row-within limits _ table2 (tables-within false) k h)
 
--- ---- the row for a period is the one that the paper prints for it, by either table
+-- ---- the row for a period is the one that is printed with it
 
-abbrev is-printed : Bool → ℕ → Bool
-is-printed third T = eqb (rowAt third (idrissRow T) .period) (ownPeriod T)
+periods-printed : (isTable3 : Bool) → map (λ r. r .period) (cond isTable3 table3 table2) ≡ idriss .periods
+periods-printed true = refl
+periods-printed false = refl
 
-all-printed : (third : Bool) → T (all (is-printed third) (0 ∷ idriss .periods))
-unfolding rowAt idrissRow
-all-printed true = tt
-all-printed false = tt
+own-tabled : (period : ℕ) → among (idriss .periods) period ≡ true → rowPeriod period ≡ period
+own-tabled period e = go (eqb period 0) refl
+  where
+    go : (b : Bool) → eqb period 0 ≡ b → cond b 10 period ≡ period
+    go true q = absurd (false≢true (rw (eqb-true period 0 q) at e))
+    go false q = refl
 
-pub row-printed : (magnitude period : ℕ) → among (0 ∷ idriss .periods) period ≡ true →
-    rowFor magnitude period .period ≡ ownPeriod period
+pub row-printed : (magnitude period : ℕ) → among (idriss .periods) period ≡ true →
+    rowFor magnitude period .period ≡ period
 unfolding rowFor
-row-printed magnitude T e =
-    eqb→eq _ _ (all-at (is-printed (takesTable3 magnitude)) (0 ∷ idriss .periods) T
-    (all-printed (takesTable3 magnitude)) e)
+row-printed magnitude period e =
+    let b = takesTable3 magnitude in
+    rw (own-tabled period e)
+    (lookup-key (λ r. r .period) noRow (cond b table3 table2) period (rw (periods-printed b) e))
+
+-- "Period 0 uses the row 0.01"
+pub peak-printed : (magnitude : ℕ) → rowFor magnitude 0 .period ≡ 10
+unfolding rowFor
+peak-printed magnitude = go (takesTable3 magnitude)
+  where
+    go : (b : Bool) → lookup (λ r. r .period) noRow (cond b table3 table2) 10 .period ≡ 10
+    go true = refl
+    go false = refl
+
+-- ---- and the one in the place that the code looks up
+
+pub row-at : (magnitude period : ℕ) → rowFor magnitude period ≡ rowAt (takesTable3 magnitude) (idrissRow period)
+unfolding rowFor rowAt idrissRow
+row-at magnitude period =
+    let b = takesTable3 magnitude in
+    rw (lookup-at (λ r. r .period) noRow (cond b table3 table2) (rowPeriod period), periods-printed b) refl

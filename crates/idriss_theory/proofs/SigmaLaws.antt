@@ -10,9 +10,9 @@ use lib.IntN.{pos}
 use Rattle.toolbox_theory.specs.Whole.{up, down}
 use Rattle.exact_theory.specs.Fraction.{_over_, _*q_}
 use Rattle.exact_theory.specs.Pair.{_∈_}
-use Rattle.exact_theory.specs.Formula.{ends}
+use Rattle.exact_theory.specs.Formula.{ln, lnQ, ends}
 use Rattle.exact_theory.proofs.FractionLaws.{over-Is, mul-Is}
-use Rattle.exact_theory.proofs.Points.{Points, value, Sound}
+use Rattle.exact_theory.proofs.Points.{Points, value, Sound, lnQ-is}
 use Rattle.exact_theory.proofs.UnitLaws.{Lies, lies-natural, lies-negated, lies-stated, lies-sum, lies-difference}
 use Rattle.signed_theory.specs.declared.Ends.{Ends}
 use Rattle.signed_theory.specs.Evaluation.{betweenOf}
@@ -20,22 +20,26 @@ use Rattle.signed_theory.proofs.Laws.{between-small}
 use Rattle.logarithm_theory.specs.declared.Ends as natural
 use Rattle.logarithm_theory.proofs.Enclosure.{Known, encloses}
 use Rattle.outward_theory.proofs.Laws.{Held, HeldBelow, multiple-held, multiple-below, lies-between, narrow-between}
-use Rattle.idriss_theory.specs.Tables.{ownPeriod}
-use Rattle.idriss_theory.specs.Median.{hundredths}
-use Rattle.idriss_theory.specs.Sigma.{heldTo, sigma}
+use Rattle.idriss_theory.specs.Tables.{rowPeriod}
+use Rattle.idriss_theory.specs.Sigma.{clamp, sigma}
 use Rattle.idriss_theory.specs.Promise.{SigmaDomain, sigmaWidth, SigmaEnds}
 use Rattle.idriss_theory.specs.Periods.{periodLogarithm}
-use Rattle.idriss_theory.specs.Evaluation.{periodTermOf, sigmaOf, heldMagnitude, heldPeriod}
-use Rattle.idriss_theory.proofs.Listed.{Listed, period-listed, term-sized, held-tabled}
+use Rattle.idriss_theory.specs.Evaluation.{periodTermOf, sigmaOf, clampedMagnitude, clampedPeriod}
+use Rattle.idriss_theory.proofs.Listed.{Listed, period-listed, term-sized, clamped-tabled}
 use Rattle.idriss_theory.proofs.Sums.{sigma-below, sigma-above}
 
--- period 0 is held like 0.01 s
-own-held : (most period : ℕ) → heldTo 50 most (ownPeriod period) ≡ heldTo 50 most period
-own-held most period = go (eqb period 0) refl
+-- period 0 is clamped like 0.01 s
+own-clamped : (most period : ℕ) → clamp 50 most (rowPeriod period) ≡ clamp 50 most period
+own-clamped most period = go (eqb period 0) refl
   where
-    go : (b : Bool) → eqb period 0 ≡ b → heldTo 50 most (cond b 10 period) ≡ heldTo 50 most period
+    go : (b : Bool) → eqb period 0 ≡ b → clamp 50 most (cond b 10 period) ≡ clamp 50 most period
     go true e = rw (eqb-true period 0 e) refl
     go false e = refl
+
+-- T by a and b
+period-ln : (t : ℕ) → lnQ (pos t over 1_000) ≡ ln t 1_000
+unfolding up down
+period-ln t = lnQ-is (over-Is (pos t) 1_000 (omega arith))
 
 -- 1.18
 constant : Lies (pos 118 over 100) 1_180_000_000 0 1_180_000_000 0
@@ -43,7 +47,7 @@ unfolding up down
 constant = lies-stated (over-Is (pos 118) 100 (omega arith)) 1_180_000_000 0 (omega arith)
 
 -- 0.06 M
-magnitude-term : (m : ℕ) → Lies (pos 6 over 100 *q hundredths m) (600_000 * m) 0 (600_000 * m) 0
+magnitude-term : (m : ℕ) → Lies (pos 6 over 100 *q pos m over 100) (600_000 * m) 0 (600_000 * m) 0
 unfolding up down
 magnitude-term m =
     lies-stated (mul-Is (over-Is (pos 6) 100 (omega arith)) (over-Is (pos m) 100 (omega arith))) (600_000 * m) 0
@@ -80,16 +84,16 @@ module _ {t : ℕ} (l : Listed t) {σ : Points} (known : Known σ) where
 
 module _ (period magnitude : ℕ) (d : SigmaDomain period) where
   abbrev t : ℕ
-  t = heldPeriod period
+  t = clampedPeriod period
 
   abbrev m : ℕ
-  m = 600_000 * heldMagnitude magnitude
+  m = 600_000 * clampedMagnitude magnitude
 
   abbrev term : natural.Ends
   term = periodTermOf t
 
   listed : Listed t
-  listed = period-listed t (held-tabled period (d .tabled))
+  listed = period-listed t (clamped-tabled period (d .tabled))
 
   -- 0.06 M, and the term that is added or taken off
   held-below : t < 1_000 → (σ : Points) → Known σ →
@@ -97,8 +101,9 @@ module _ (period magnitude : ℕ) (d : SigmaDomain period) where
       value σ (sigma period magnitude) ∈ ends (e .low) (e .high)
   unfolding sigma value
   held-below h σ known =
-      rw own-held (lies-between (lies-difference (lies-sum constant (term-below listed known h))
-      (magnitude-term (heldMagnitude magnitude)))
+      rw (own-clamped, period-ln)
+      (lies-between (lies-difference (lies-sum constant (term-below listed known h))
+      (magnitude-term (clampedMagnitude magnitude)))
       1_180_000_000 (m + term .high) 1_180_000_000 (m + term .low) (omega arith) (omega arith))
 
   held-above : 1_000 ≤ t → (σ : Points) → Known σ →
@@ -106,13 +111,15 @@ module _ (period magnitude : ℕ) (d : SigmaDomain period) where
       value σ (sigma period magnitude) ∈ ends (e .low) (e .high)
   unfolding sigma value
   held-above h σ known =
-      rw own-held (lies-between (lies-difference (lies-sum constant (term-held listed known h))
-      (magnitude-term (heldMagnitude magnitude)))
+      rw (own-clamped, period-ln)
+      (lies-between (lies-difference (lies-sum constant (term-held listed known h))
+      (magnitude-term (clampedMagnitude magnitude)))
       (1_180_000_000 + term .low) m (1_180_000_000 + term .high) m (omega arith) (omega arith))
 
   sound : Sound (sigma period magnitude)
   unfolding sigma Sound
-  sound = ((tt, (tt, (omega arith, omega arith))), tt)
+  sound =
+      rw (own-clamped, period-ln) ((tt, (tt, (omega arith, omega arith))), tt)
 
   pub sigmaOf-promise : SigmaEnds period magnitude (sigmaOf period magnitude)
   sigmaOf-promise =

@@ -6,8 +6,9 @@ use Rattle.signed_theory.specs.Evaluation.{betweenOf}
 use Rattle.logarithm_theory.specs.declared.Ends as natural
 use Rattle.idriss_theory.specs.declared.Row as code
 use Rattle.idriss_theory.specs.Tables.{Row}
-use Rattle.idriss_theory.specs.Evaluation.{parts, gainsOf, lossesOf, distanceTermOf, siteTermOf, medianOf}
-use Rattle.idriss_theory.specs.Evaluation.{heldMagnitude, heldPeriod, periodTermOf, sigmaOf}
+use Rattle.idriss_theory.specs.Evaluation.{gainsOf, lossesOf, distanceTermOf, siteTermOf, medianOf}
+use Rattle.idriss_theory.specs.Rows.{parts}
+use Rattle.idriss_theory.specs.Evaluation.{clampedMagnitude, clampedPeriod, periodTermOf, sigmaOf}
 
 pub median-is : (row : Row) {r : code.Row} {far site : natural.Ends} {up down : ℕ} (m d v mechanism : ℕ) →
     r ≡ parts row → far ≡ distanceTermOf r m d → site ≡ siteTermOf r v → up ≡ gainsOf r m mechanism →
@@ -16,8 +17,8 @@ pub median-is : (row : Row) {r : code.Row} {far site : natural.Ends} {up down : 
 unfolding medianOf
 median-is k m d v mechanism row far site up down = rw (far, site, up, down, row) refl
 
-module _ (period magnitude : ℕ) {t m : ℕ} {term : natural.Ends} (et : t ≡ heldPeriod period)
-    (em : m ≡ heldMagnitude magnitude) (e : term ≡ periodTermOf t) where
+module _ (period magnitude : ℕ) {t m : ℕ} {term : natural.Ends} (et : t ≡ clampedPeriod period)
+    (em : m ≡ clampedMagnitude magnitude) (e : term ≡ periodTermOf t) where
   pub sigma-below : t < 1_000 →
       betweenOf 1_180_000_000 (600_000 * m + term .high) 1_180_000_000
       (600_000 * m + term .low) ≡ sigmaOf period magnitude

@@ -3,7 +3,6 @@
 use mathlib.Core.Bool.{cond}
 use Prim.Native.Nat.{ℕ, _+_, _*_, _-_, _≤_, min}
 use lib.Dec.{ltb}
-use Rattle.toolbox_theory.specs.Whole.{up, down}
 use Rattle.signed_theory.specs.declared.Ends.{Ends}
 use Rattle.signed_theory.specs.Evaluation.{betweenOf}
 use Rattle.logarithm_theory.specs.declared.Ends as natural
@@ -12,50 +11,9 @@ use Rattle.outward_theory.specs.Evaluation.{multipleOf}
 use Rattle.idriss_theory.specs.declared.Row as code
 use Rattle.idriss_theory.specs.Tables.{Row}
 use Rattle.idriss_theory.specs.Median.{F}
-use Rattle.idriss_theory.specs.Sigma.{heldTo}
+use Rattle.idriss_theory.specs.Sigma.{clamp}
 use Rattle.idriss_theory.specs.Periods.{periodLogarithm}
-
--- ---- rows
-
--- a row of the paper by the code's unsigned parts
-abbrev pub parts : Row → code.Row
-parts r = record {
-  0 = up (r .α1);
-  1 = down (r .α1);
-  2 = up (r .α2);
-  3 = down (r .α2);
-  4 = up (r .α3);
-  5 = down (r .α3);
-  6 = up (r .β1);
-  7 = down (r .β2);
-  8 = down (r .ξ);
-  9 = down (r .γ);
-  10 = up (r .φ);
-}
-
--- the sizes that the evaluation rests on
-pub record RowLimits (r : code.Row) : Type 0 where
-  pub alpha1-gain : r .0 ≤ 120_000
-  pub alpha1-loss : r .1 ≤ 120_000
-  pub alpha2-gain : r .2 ≤ 20_000
-  pub alpha2-loss : r .3 ≤ 20_000
-  pub alpha3-gain : r .4 ≤ 1_000
-  pub alpha3-loss : r .5 ≤ 1_000
-  pub beta1 : r .6 ≤ 30_500
-  pub beta-least : r .7 * 790 + 300_000 ≤ 100 * r .6
-  pub beta-most : 100 * r .6 ≤ 2_000_000 + r .7 * 450
-  pub xi : r .8 ≤ 1_500
-  pub gamma : r .9 ≤ 100
-  pub phi : r .10 ≤ 10
-
--- and the signs that the code's parts rest on
-pub record TableLimits (r : Row) : Type 0 where
-  pub sizes : RowLimits (parts r)
-  pub beta1-above : down (r .β1) ≤ 0
-  pub beta2-below : up (r .β2) ≤ 0
-  pub xi-below : up (r .ξ) ≤ 0
-  pub gamma-below : up (r .γ) ≤ 0
-  pub phi-above : down (r .φ) ≤ 0
+use Rattle.idriss_theory.specs.Rows.{parts}
 
 -- ---- the median
 
@@ -82,16 +40,16 @@ gainsOf r m mechanism = alphaSum (r .0) (r .2) (r .4) m + 10_000_000 * (r .10 * 
 unfoldable pub lossesOf : code.Row → ℕ → ℕ → ℕ
 lossesOf r m ruptureDistance = alphaSum (r .1) (r .3) (r .5) m + 1_000 * (r .9 * ruptureDistance)
 
--- the velocity above which V counts as 1200 m/s
-abbrev pub velocityCap : ℕ
-velocityCap = 12_000
+-- the V_S30 above which V counts as 1200 m/s
+abbrev pub vs30Cap : ℕ
+vs30Cap = 12_000
 
 -- (β1 + β2 M) ln(R + 10), and −ξ ln V
 unfoldable pub distanceTermOf : code.Row → ℕ → ℕ → natural.Ends
 distanceTermOf r m ruptureDistance = multipleOf (betaOf r m) (lnOf (ruptureDistance + 1_000) 100)
 
 unfoldable pub siteTermOf : code.Row → ℕ → natural.Ends
-siteTermOf r velocity = multipleOf (20_000 * r .8) (lnOf (min velocity velocityCap) 10)
+siteTermOf r vs30 = multipleOf (20_000 * r .8) (lnOf (min vs30 vs30Cap) 10)
 
 unfoldable pub medianOf : Row → ℕ → ℕ → ℕ → ℕ → Ends
 medianOf row m d v mechanism =
@@ -104,22 +62,22 @@ medianOf row m d v mechanism =
 
 -- ---- sigma
 
--- M and T, held
-abbrev pub heldMagnitude : ℕ → ℕ
-heldMagnitude magnitude = heldTo 500 750 magnitude
+-- M and T, clamped
+abbrev pub clampedMagnitude : ℕ → ℕ
+clampedMagnitude magnitude = clamp 500 750 magnitude
 
-abbrev pub heldPeriod : ℕ → ℕ
-heldPeriod period = heldTo 50 3_000 period
+abbrev pub clampedPeriod : ℕ → ℕ
+clampedPeriod period = clamp 50 3_000 period
 
--- 0.035 ln T, T held
+-- 0.035 ln T, T clamped
 unfoldable pub periodTermOf : ℕ → natural.Ends
 periodTermOf t = multipleOf 700_000 (periodLogarithm t)
 
 -- 1.18 + 0.035 ln T − 0.06 M
 unfoldable pub sigmaOf : ℕ → ℕ → Ends
 sigmaOf period magnitude =
-    let m : ℕ = 600_000 * heldMagnitude magnitude in
-    let t : ℕ = heldPeriod period in
+    let m : ℕ = 600_000 * clampedMagnitude magnitude in
+    let t : ℕ = clampedPeriod period in
     let term : natural.Ends = periodTermOf t in
     cond (ltb t 1_000)
     (betweenOf 1_180_000_000 (m + term .high) 1_180_000_000 (m + term .low))

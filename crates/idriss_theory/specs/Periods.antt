@@ -4,12 +4,12 @@ use mathlib.Core.List.{List, [], _∷_}
 use Prim.Native.Nat.{ℕ}
 use lib.ListN.{getD}
 use Rattle.logarithm_theory.specs.declared.Ends.{Ends}
-use Rattle.scenario_theory.specs.Refusal.{idrissRow}
+use Rattle.scenario_theory.specs.Rows.{idrissRow}
 
 abbrev pair : ℕ → ℕ → Ends
 pair low high = record { low = low; high = high }
 
--- the size of ln T of each of the periods, T in seconds: that of ln(1/T) below 1 s. In units of 10^-9
+-- the absolute value of ln T of each of the periods, T in seconds: that of ln(1/T) below 1 s. In units of 10^-9
 abbrev pub periodLogarithms : List Ends
 periodLogarithms =
     pair 4_605_170_185 4_605_170_187 ∷

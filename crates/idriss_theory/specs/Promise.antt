@@ -16,14 +16,14 @@ use Rattle.idriss_theory.specs.Tables.{Row}
 use Rattle.idriss_theory.specs.Median.{median}
 use Rattle.idriss_theory.specs.Sigma.{sigma}
 
--- the arguments of the median: a row of a table, and numbers within the limits of the model; any velocity above them,
+-- the arguments of the median: a row of a table, and numbers within the limits of the model; any V_S30 above them,
 -- too, as it counts as 1200 m/s
-pub record MedianDomain (k magnitude ruptureDistance velocity : ℕ) : Type 0 where
+pub record MedianDomain (k magnitude ruptureDistance vs30 : ℕ) : Type 0 where
   pub row : k < rowCount
   pub magnitude-low : idriss .magnitude .low ≤ magnitude
   pub magnitude-high : magnitude ≤ idriss .magnitude .high
   pub near : ruptureDistance ≤ idriss .distance .high
-  pub slow : idriss .velocity .low ≤ velocity
+  pub slow : idriss .velocity .low ≤ vs30
 
 -- the argument of sigma: 0 or a tabled period
 pub record SigmaDomain (period : ℕ) : Type 0 where
@@ -37,8 +37,8 @@ abbrev pub sigmaWidth : ℕ
 sigmaWidth = 2
 
 -- e encloses the median by the row r, at every fineness, is narrow, and has ends that a double equals
-pub record MedianEnds (r : Row) (magnitude ruptureDistance velocity mechanism : ℕ) (e : Ends) : Type 0 where
-  pub encloses : Encloses (ends (e .low) (e .high)) (median r magnitude ruptureDistance velocity mechanism)
+pub record MedianEnds (r : Row) (magnitude ruptureDistance vs30 mechanism : ℕ) (e : Ends) : Type 0 where
+  pub encloses : Encloses (ends (e .low) (e .high)) (median r magnitude ruptureDistance vs30 mechanism)
   pub narrow : e .high ≤ℤ (e .low +ℤ pos medianWidth)
   pub small : SmallerThan (2 ^ 53) e
 

@@ -2,18 +2,19 @@
 -- seconds held to 0.05 to 3 and M held to 5 to 7.5".
 use Prim.Native.Nat.{ℕ, min, max}
 use lib.IntN.{pos}
-use Rattle.exact_theory.specs.Fraction.{_over_, _*q_}
-use Rattle.exact_theory.specs.Formula.{Formula, stated, ln, _⊕_, _⊖_, _⊗_}
-use Rattle.idriss_theory.specs.Tables.{ownPeriod}
-use Rattle.idriss_theory.specs.Median.{hundredths}
+use Rattle.exact_theory.specs.Fraction.{Fraction, _over_, _*q_}
+use Rattle.exact_theory.specs.Formula.{Formula, stated, lnQ, _⊕_, _⊖_, _⊗_}
+use Rattle.idriss_theory.specs.Tables.{rowPeriod}
 
--- x held to the range from least to most
-abbrev pub heldTo : ℕ → ℕ → ℕ → ℕ
-heldTo least most x = min (max x least) most
+-- x "held to" the range from low to high
+abbrev pub clamp : ℕ → ℕ → ℕ → ℕ
+clamp low high x = min (max x low) high
 
--- T is in thousandths
+-- the period in thousandths of a second, the magnitude in hundredths
 unfoldable pub sigma : ℕ → ℕ → Formula
 sigma period magnitude =
+    let T : Fraction = pos (clamp 50 3_000 (rowPeriod period)) over 1_000 in
+    let M : Fraction = pos (clamp 500 750 magnitude) over 100 in
     stated (pos 118 over 100)
-    ⊕ stated (pos 35 over 1_000) ⊗ ln (heldTo 50 3_000 (ownPeriod period)) 1_000
-    ⊖ stated (pos 6 over 100 *q hundredths (heldTo 500 750 magnitude))
+    ⊕ stated (pos 35 over 1_000) ⊗ lnQ T
+    ⊖ stated (pos 6 over 100 *q M)

@@ -1,31 +1,40 @@
--- Tables 2 and 3 of source document 000, with the printed digits: α1, α2, α3, β1, β2 and γ in 10^-4, ξ in 10^-3, φ in
--- 10^-2; the period in thousandths of a second. (Table 2's period column is document 01's list.)
+-- Tables 2 and 3 of source document 000, with the printed digits. (Table 2's period column is document 01's list.)
 use mathlib.Core.Bool.{Bool, cond}
 use mathlib.Core.List.{List, [], _∷_}
 use Prim.Native.Nat.{ℕ}
 use lib.Dec.{eqb, ltb}
 use lib.IntN.{ℤ, pos, negℤ}
-use lib.ListN.{getD}
-use Rattle.scenario_theory.specs.Refusal.{idrissRow}
+use Rattle.toolbox_theory.specs.Lists.{lookup}
+use Rattle.exact_theory.specs.Fraction.{Fraction, _over_}
 
 abbrev neg : ℕ → ℤ
 neg n = negℤ (pos n)
 
--- a row, in the paper's order
+-- a row, in the paper's order; the period in thousandths of a second
 pub record Row : Type 0 where
   pub period : ℕ
-  pub α1 : ℤ
-  pub α2 : ℤ
-  pub α3 : ℤ
-  pub β1 : ℤ
-  pub β2 : ℤ
-  pub ξ : ℤ
-  pub γ : ℤ
-  pub φ : ℤ
+  pub α1 : Fraction
+  pub α2 : Fraction
+  pub α3 : Fraction
+  pub β1 : Fraction
+  pub β2 : Fraction
+  pub ξ : Fraction
+  pub γ : Fraction
+  pub φ : Fraction
 
+-- the row of the printed digits: ξ has three decimals, φ two, the others four
 abbrev row : ℕ → ℤ → ℤ → ℤ → ℤ → ℤ → ℤ → ℤ → ℤ → Row
-row period α1 α2 α3 β1 β2 ξ γ φ =
-    record { period = period; α1 = α1; α2 = α2; α3 = α3; β1 = β1; β2 = β2; ξ = ξ; γ = γ; φ = φ }
+row period α1 α2 α3 β1 β2 ξ γ φ = record {
+  period = period;
+  α1 = α1 over 10_000;
+  α2 = α2 over 10_000;
+  α3 = α3 over 10_000;
+  β1 = β1 over 10_000;
+  β2 = β2 over 10_000;
+  ξ = ξ over 1_000;
+  γ = γ over 10_000;
+  φ = φ over 100;
+}
 
 -- Table 2: M up to and including 6.75
 abbrev pub table2 : List Row
@@ -83,22 +92,19 @@ table3 =
     row 10000 (neg 44387) (pos 8393) (neg 35) (pos 14195) (neg 1145) (neg 586) (neg 61) (pos 0) ∷
     []
 
--- what stands past a table's end
+-- where no row is printed with a period; no table has a row for 0.001 s
 abbrev pub noRow : Row
-noRow = row 0 (pos 0) (pos 0) (pos 0) (pos 0) (pos 0) (pos 0) (pos 0) (pos 0)
+noRow = row 1 (pos 0) (pos 0) (pos 0) (pos 0) (pos 0) (pos 0) (pos 0) (pos 0)
 
 -- "Table 2 holds up to and including M 6.75, Table 3 above it": the magnitude in hundredths
 unfoldable pub takesTable3 : ℕ → Bool
 takesTable3 magnitude = ltb 675 magnitude
 
--- row k of Table 3 where `third`, else of Table 2, counted from 0 at 0.01 s
-unfoldable pub rowAt : Bool → ℕ → Row
-rowAt third k = getD (cond third table3 table2) k noRow
-
 -- "Period 0 uses the row 0.01": the period of the row that a period uses
-abbrev pub ownPeriod : ℕ → ℕ
-ownPeriod period = cond (eqb period 0) 10 period
+abbrev pub rowPeriod : ℕ → ℕ
+rowPeriod period = cond (eqb period 0) 10 period
 
--- the row of a magnitude and a period
+-- the row that the table of a magnitude prints with a period
 unfoldable pub rowFor : ℕ → ℕ → Row
-rowFor magnitude period = rowAt (takesTable3 magnitude) (idrissRow period)
+rowFor magnitude period =
+    lookup (λ r. r .period) noRow (cond (takesTable3 magnitude) table3 table2) (rowPeriod period)
