@@ -2,8 +2,9 @@
 // in whole units of 10^-9 or in doubles, or with the number of its refusal.
 ghost use mathlib.Core.Path.{_≡_};
 ghost use Prim.Native.Nat.{_^_, _<_};
-ghost use lib.Signed.{mag};
-ghost use Rattle.scenario_theory.specs.Refusal.{idrissRow, booreAtkinsonRow, refusalOf};
+ghost use lib.IntN.{natAbs};
+ghost use Rattle.scenario_theory.specs.Refusal.{refusalOf};
+ghost use Rattle.scenario_theory.specs.Rows.{idrissRow, booreAtkinsonRow};
 ghost use Rattle.record_theory.specs.Outcome.{scenarioIn, readRefusal};
 ghost use Rattle.engine_theory.specs.Promise.{AnswerPromise, DoublesPromise};
 ghost use Rattle.engine_theory.specs.Steps.{Looked, TakenBy};
@@ -20,9 +21,9 @@ fn by_idriss(s: Scenario, k: usize) -> Enclosure
     requires { ⌜ TakenBy 1 idrissRow s k ⌝ }
     ensures { λ r. ⌜ r ≡ enclosureOf s ⌝ }
 {
-    let third = idriss::takes_table_3(s.magnitude);
+    let table_3 = idriss::takes_table_3(s.magnitude);
     Enclosure {
-        median: idriss::median(third, k, s.magnitude, s.distance, s.velocity, s.mechanism),
+        median: idriss::median(table_3, k, s.magnitude, s.distance, s.velocity, s.mechanism),
         sigma: idriss::sigma(s.period, s.magnitude),
     }
 }
@@ -116,7 +117,7 @@ pub fn answer_record(bytes: &[u8]) -> Answer
 }
 
 fn double(z: i64) -> f64
-    requires { ⌜ mag z < 2 ^ 53 ⌝ }
+    requires { ⌜ natAbs z < 2 ^ 53 ⌝ }
     ensures { λ r. ⌜ r ≡ doubleOf z ⌝ }
 {
     z as f64

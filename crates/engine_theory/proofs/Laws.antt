@@ -17,12 +17,14 @@ use Rattle.scenario_theory.proofs.RowLaws.{idriss-row, boore-atkinson-row}
 use Rattle.idriss_theory.specs.Tables.{takesTable3, rowFor as idrissRowFor}
 use Rattle.idriss_theory.specs.Evaluation.{medianOf as idrissMedianOf}
 use Rattle.idriss_theory.specs.Promise as idrissPromise
+use Rattle.idriss_theory.proofs.Rows.{row-at as idriss-row-at}
 use Rattle.idriss_theory.proofs.Accepted.{median-domain as idriss-median-domain, sigma-domain}
 use Rattle.idriss_theory.proofs.Laws.{medianOf-promise as idriss-median-promise}
 use Rattle.idriss_theory.proofs.SigmaLaws.{sigmaOf-promise as idriss-sigma-promise}
 use Rattle.boore_atkinson_theory.specs.Tables.{rowFor as booreAtkinsonRowFor, totalFor as booreAtkinsonTotalFor}
 use Rattle.boore_atkinson_theory.specs.Evaluation.{medianOf as booreAtkinsonMedianOf, sigmaOf as booreAtkinsonSigmaOf}
 use Rattle.boore_atkinson_theory.specs.Promise as booreAtkinsonPromise
+use Rattle.boore_atkinson_theory.proofs.Rows.{row-at as boore-atkinson-row-at, total-at as boore-atkinson-total-at}
 use Rattle.boore_atkinson_theory.proofs.Accepted.{median-domain as boore-atkinson-median-domain}
 use Rattle.boore_atkinson_theory.proofs.Laws.{medianOf-promise as boore-atkinson-median-promise}
 use Rattle.boore_atkinson_theory.proofs.Laws.{sigmaOf-promise as boore-atkinson-sigma-promise}
@@ -63,10 +65,9 @@ module _ (s : Scenario) (w : Within idriss s) where
       (s .velocity) (s .mechanism)
       (idrissMedianOf (idrissRowFor (s .magnitude) (s .period)) (s .magnitude) (s .distance) (s .velocity)
       (s .mechanism))
-  unfolding idrissRowFor
   idriss-median =
-      idriss-median-promise (takesTable3 (s .magnitude)) (s .mechanism)
-      (idriss-median-domain s (idriss-row (s .period) (w .period)) w)
+      rw (idriss-row-at (s .magnitude) (s .period)) (idriss-median-promise (takesTable3 (s .magnitude)) (s .mechanism)
+      (idriss-median-domain s (idriss-row (s .period) (w .period)) w))
 
   idriss-sound : s .model ≡ 1 → Sound s (enclosureOf s)
   unfolding enclosureOf median sigma medianWidth sigmaWidth
@@ -84,16 +85,15 @@ module _ (s : Scenario) (w : Within booreAtkinson s) where
       (s .distance) (s .velocity) (s .mechanism)
       (booreAtkinsonMedianOf (booreAtkinsonRowFor (s .period)) (s .magnitude) (s .distance) (s .velocity)
       (s .mechanism))
-  unfolding booreAtkinsonRowFor
   boore-atkinson-median =
-      boore-atkinson-median-promise (s .mechanism)
-      (boore-atkinson-median-domain s (boore-atkinson-row (s .period) (w .period)) w)
+      rw (boore-atkinson-row-at (s .period)) (boore-atkinson-median-promise (s .mechanism)
+      (boore-atkinson-median-domain s (boore-atkinson-row (s .period) (w .period)) w))
 
   boore-atkinson-sigma : booreAtkinsonPromise.SigmaEnds (booreAtkinsonTotalFor (s .period)) (s .mechanism)
       (booreAtkinsonSigmaOf (booreAtkinsonTotalFor (s .period)) (s .mechanism))
-  unfolding booreAtkinsonTotalFor
   boore-atkinson-sigma =
-      boore-atkinson-sigma-promise _ (s .mechanism) (boore-atkinson-row (s .period) (w .period))
+      rw (boore-atkinson-total-at (s .period))
+      (boore-atkinson-sigma-promise _ (s .mechanism) (boore-atkinson-row (s .period) (w .period)))
 
   boore-atkinson-sound : s .model ≡ 2 → Sound s (enclosureOf s)
   unfolding enclosureOf median sigma medianWidth sigmaWidth

@@ -9,7 +9,8 @@ use lib.Ieee.{Float, Format, binary64, ofInt}
 use Rattle.signed_theory.specs.Evaluation.{SmallerThan}
 use Rattle.scenario_theory.specs.declared.Scenario.{Scenario}
 use Rattle.scenario_theory.specs.Checks.{unlessRefused}
-use Rattle.scenario_theory.specs.Refusal.{idrissRow, booreAtkinsonRow, refusalOf}
+use Rattle.scenario_theory.specs.Refusal.{refusalOf}
+use Rattle.scenario_theory.specs.Rows.{idrissRow, booreAtkinsonRow}
 use Rattle.record_theory.specs.Outcome.{scenarioIn, readRefusal}
 use Rattle.idriss_theory.specs.Tables.{rowFor as idrissRowFor}
 use Rattle.idriss_theory.specs.Evaluation.{medianOf as idrissMedianOf, sigmaOf as idrissSigmaOf}
@@ -69,7 +70,7 @@ recordAnswerOf bytes = answerBy (readRefusal bytes) (scenarioIn bytes)
 
 -- ---- in doubles
 
--- all ends are below 2 ^ 53 in size
+-- all ends are below 2 ^ 53 in absolute value
 pub record SmallEnclosure (e : Enclosure) : Type 0 where
   pub median : SmallerThan (2 ^ 53) (e .median)
   pub sigma : SmallerThan (2 ^ 53) (e .sigma)

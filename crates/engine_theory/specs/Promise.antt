@@ -45,8 +45,7 @@ pub record EnclosesBoth (s : Scenario) (values : List ℤ) : Type 0 where
   pub sigma-enclosed : EnclosedWithin (sigmaWidth s) (sigma s) sigmaLow sigmaHigh
 
 -- an answer to s where k is the number of the first check that applies, 0 where none does: answered "exactly when none
--- of the refusal numbers .. applies. Otherwise it gets the first that applies" (demand 3). A refusal with the number 0
--- is no answer: it has no values to enclose anything. The last line follows from the first, and is there to be read
+-- of the refusal numbers .. applies. Otherwise it gets the first that applies" (demand 3)
 pub record AnswerPromise (k : ℕ) (s : Scenario) (a : Answer) : Type 0 where
   pub number : answerNumber a ≡ k
   pub enclosed : k ≡ 0 → EnclosesBoth s (answerValues a)
@@ -63,7 +62,7 @@ abbrev pub doublesValues : DoublesAnswer → List Float
 doublesValues (D.Enclosed d) = d .«median_low» ∷ d .«median_high» ∷ d .«sigma_low» ∷ d .«sigma_high» ∷ []
 doublesValues (D.Refused k) = []
 
--- x is finite, has the sign of z and its size: "doubles that equal the whole numbers, nothing rounded"
+-- x is finite, has the sign of z and its absolute value: "doubles that equal the whole numbers, nothing rounded"
 abbrev pub Equals : Float → ℤ → Type 0
 Equals x (pos n) = HasValue x false n 1
 Equals x (negsuc n) = HasValue x true (suc n) 1

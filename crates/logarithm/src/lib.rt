@@ -2,7 +2,7 @@
 ghost use mathlib.Core.Path.{_≡_};
 ghost use Prim.Native.Nat.{_^_, _<_};
 ghost use Rattle.exact_theory.specs.Root.{wholeRoot};
-ghost use Rattle.logarithm_theory.specs.Promise.{LnDomain};
+ghost use Rattle.logarithm_theory.specs.Promise.{LnDomain, LnEnds, RootEnds};
 ghost use Rattle.logarithm_theory.specs.Evaluation.{Mantissa, Normal, NearOne, scaledBy, scaledOf, nearOneOf};
 ghost use Rattle.logarithm_theory.specs.Evaluation.{mantissaLnOf, scaledLnOf, lnOf, rootOf};
 use logarithm_tables as table;
@@ -56,10 +56,11 @@ fn scaled_ln(octave: u64, mantissa: u64) -> Ends
     }
 }
 
-// ln(a/b), for 1 ≤ b ≤ a < 2^29. What is promised of the ends is LnEnds of logarithm_theory.
+// ln(a/b), for 1 ≤ b ≤ a < 2^29.
 pub fn ln(a: u64, b: u64) -> Ends
     requires { ⌜ LnDomain a b ⌝ }
     ensures { λ r. ⌜ r ≡ lnOf a b ⌝ }
+    ensures { λ r. ⌜ LnEnds a b r ⌝ }
 {
     if a == b {
         return Ends { low: 0, high: 0 };
@@ -72,6 +73,7 @@ pub fn ln(a: u64, b: u64) -> Ends
 pub fn ln_hundredths(a: u64) -> Ends
     requires { ⌜ LnDomain a 100 × (100 < a) ⌝ }
     ensures { λ r. ⌜ r ≡ lnOf a 100 ⌝ }
+    ensures { λ r. ⌜ LnEnds a 100 r ⌝ }
 {
     let s = scale(a, 100);
     scaled_ln(s.octave, s.mantissa)
@@ -90,10 +92,11 @@ fn whole_root(n: u64) -> u64
     s
 }
 
-// The root of x lies from r/131072 to (r + 1)/131072, r the result: RootEnds of logarithm_theory.
+// The root of x lies from r/131072 to (r + 1)/131072, r the result.
 pub fn root(x: u64) -> u64
     requires { ⌜ x < 2 ^ 29 ⌝ }
     ensures { λ r. ⌜ r ≡ rootOf x ⌝ }
+    ensures { λ r. ⌜ RootEnds x r ⌝ }
 {
     whole_root(x * 17_179_869_184)
 }

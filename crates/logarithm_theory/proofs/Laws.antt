@@ -68,6 +68,10 @@ lnOf-promise d =
     let r = lnOf-rounded d in
     record { encloses = encloses-ln (d .least) (d .order) (r .order) (r .bounds); narrow = r .narrow; same = lnOf-same }
 
+-- every pair of which a contract says `r ≡ lnOf a b` keeps the promise
+pub ln-ends : {a b : ℕ} {r : Ends} → LnDomain a b → r ≡ lnOf a b → (r ≡ lnOf a b) × LnEnds a b r
+ln-ends d e = (e, rw e (lnOf-promise d))
+
 root-narrow : (k : ℕ) →
     pos 1151 over 100_000 *q pos 1 over 100 *q width (rootValues rootFineness k) <q units (pos 1)
 unfolding width rootValues units _-q_ up down

@@ -1,5 +1,6 @@
--- What is promised of the logarithm's and the root's ends, whatever the engine computes. proofs/Laws shows it of `lnOf`
--- and `rootOf`, which the contracts name; nobody has to read those two to believe it.
+-- What is promised of the logarithm's and the root's ends, whatever the engine computes: the last clause of each
+-- contract. proofs/Laws shows it of `lnOf` and `rootOf`, which the first clause names; nobody has to read those two to
+-- believe it.
 use mathlib.Core.Path.{_≡_}
 use Prim.Native.Nat.{ℕ, _+_, _^_, _≤_, _<_}
 use lib.IntN.{pos}
@@ -37,7 +38,7 @@ rootFineness = 131_072
 unfoldable pub width : Pair → Fraction
 width P = P .high -q P .low
 
--- √X lies from k/rootFineness to (k + 1)/rootFineness, and 0.01151, the greatest size of c3 in Boore-Atkinson's Table
+-- √X lies from k/rootFineness to (k + 1)/rootFineness, and 0.01151, the greatest absolute value of c3 in Boore-Atkinson's Table
 -- 6, times that over 100 is less than 1 unit wide
 pub record RootEnds (X k : ℕ) : Type 0 where
   pub encloses : Encloses (rootValues rootFineness k) (root X)

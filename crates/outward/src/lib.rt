@@ -39,7 +39,7 @@ pub fn sum(a: Ends, b: Ends) -> Ends
 }
 
 // The lesser of two.
-pub fn lesser(a: u64, b: u64) -> u64
+pub fn min(a: u64, b: u64) -> u64
     ensures { λ r. ⌜ r ≡ min a b ⌝ }
 {
     if b < a {
@@ -49,7 +49,7 @@ pub fn lesser(a: u64, b: u64) -> u64
 }
 
 // The greater of two.
-pub fn greater(a: u64, b: u64) -> u64
+pub fn max(a: u64, b: u64) -> u64
     ensures { λ r. ⌜ r ≡ max a b ⌝ }
 {
     if a < b {
@@ -63,7 +63,7 @@ pub fn span(a: Ends, b: Ends) -> Ends
     ensures { λ r. ⌜ r ≡ spanOf a b ⌝ }
 {
     Ends {
-        low: lesser(a.low, b.low),
-        high: greater(a.high, b.high),
+        low: min(a.low, b.low),
+        high: max(a.high, b.high),
     }
 }

@@ -185,7 +185,7 @@ next x s h = go (x / s) (lt-div-mul-add {a = x} {b = s} h)
     go : (q : ℕ) → x < q * s + s → x ≤ (q + 1) * s
     go q g = omega arith
 
--- c is u/s or −u/s, which is k/scale in size, and x lies between e's ends or between their negatives
+-- c is u/s or −u/s, which is k/scale in absolute value, and x lies between e's ends or between their negatives
 module _ (u s k : ℕ) (same : u * scale ≡ k * s) where
   low-is : (l : ℕ) → k * l / scale * s ≤ u * l
   low-is l = below u s k l (k * l / scale) same (div-mul-le-self (k * l) scale)

@@ -9,9 +9,9 @@ use Rattle.logarithm_theory.specs.Evaluation.{lnOf, rootOf}
 use Rattle.scenario_theory.specs.declared.Scenario.{Scenario}
 use Rattle.scenario_theory.specs.Refusal.{refusalOf}
 use Rattle.scenario_theory.specs.Rows.{rowCount}
-use Rattle.idriss_theory.specs.Tables.{rowAt}
+use Rattle.idriss_theory.specs.Rows.{rowAt}
 use Rattle.idriss_theory.specs.Evaluation.{medianOf, sigmaOf}
-use Rattle.boore_atkinson_theory.specs.Tables as tables
+use Rattle.boore_atkinson_theory.specs.Rows as rows
 use Rattle.boore_atkinson_theory.specs.Evaluation as second
 use Rattle.engine_theory.specs.Evaluation.{scenarioWith}
 use Rattle.probes.specs.declared.Probed.{Probed}
@@ -57,14 +57,14 @@ probedIdrissSigma period m = whereTaken 0 (scenarioWith 1 m 0 7_600 0 period) (s
 
 unfoldable pub probedBooreAtkinson : ℕ → ℕ → ℕ → ℕ → ℕ → ProbedEnds
 probedBooreAtkinson k m d v mechanism =
-    whereTaken k (scenarioWith 2 m d v mechanism 0) (second.medianOf (tables.rowAt k) m d v mechanism)
+    whereTaken k (scenarioWith 2 m d v mechanism 0) (second.medianOf (rows.rowAt k) m d v mechanism)
 
 unfoldable pub probedBooreAtkinsonSigma : ℕ → ℕ → ProbedEnds
 probedBooreAtkinsonSigma k mechanism =
-    whereTaken k (scenarioWith 2 700 0 7_600 mechanism 0) (second.sigmaOf (tables.totalAt k) mechanism)
+    whereTaken k (scenarioWith 2 700 0 7_600 mechanism 0) (second.sigmaOf (rows.totalAt k) mechanism)
 
 unfoldable pub probedNonlinear : ℕ → ℕ → ℕ → ℕ → ProbedEnds
 probedNonlinear k v low high =
     cond (ltb high low) noEnds
     (whereTaken k (scenarioWith 2 700 0 v 0 0)
-    (second.nonlinearEndsOf (tables.rowAt k .site) v (record { low = low; high = high })))
+    (second.nonlinearEndsOf (rows.rowAt k .site) v (record { low = low; high = high })))

@@ -4,7 +4,7 @@ ghost use mathlib.Core.Bool.{cond, _&&_, _||_};
 ghost use Prim.Native.Nat.{_+_, _≤_, _<_};
 ghost use lib.ListN.{length, take, drop};
 ghost use denote.Ref.{ptr};
-ghost use Rattle.record_theory.specs.Layout.{layout, numberOf, absentWritten};
+ghost use Rattle.record_theory.specs.Layout.{Bytes, layout, numberOf, absentWritten};
 ghost use Rattle.record_theory.specs.Outcome.{scenarioIn, readOf, restAt, restOf, ReadPromise};
 ghost use Rattle.record_theory.specs.Steps.{Complete, frontRefusal, fieldRefusal};
 use record_map::ABSENT_MECHANISM;
@@ -133,10 +133,11 @@ fn field_refusal(m: u8, x: Scenario) -> u8
     scenario::refusal(x)
 }
 
-// Reads the record at the front of s.
+// Reads the record at the front of s. The laws by which reading and writing undo each other ask that s is bytes.
 pub fn read(s: &[u8]) -> Reading
     ensures { λ r. ⌜ r ≡ readOf (now (s .entry)) ⌝ }
     ensures { λ r. ⌜ ReadPromise (now (s .entry)) r ⌝ }
+    ensures { λ _. ⌜ Bytes (now (s .entry)) ⌝ }
 {
     let front = front_refusal(s);
     if front != 0 {

@@ -1,25 +1,38 @@
 -- What ties a signed number of the code to ℕ: a difference of two natural numbers, cast and stored.
 use mathlib.Core.Path.{_≡_, refl, ap, _∙_}
 use mathlib.Core.Bool.{Bool, true, false, not}
+use mathlib.Core.Logic.{_⊎_, inl, inr}
 use Prim.Native.Nat.{ℕ, zero, suc, _+_, _-_, _^_, _<_, _≤_}
 use native.Mathlib.Nat.{lt-irrefl, zero-add}
 use native.Mathlib.Omega.{arith}
 use borrow.Author.Tests.{lt-ltb, le-ltb, ltb-true}
 use lib.Dec.{T, ltb, ltb→lt, nltb→le}
-use lib.IntN.{ℤ, pos, negsuc, negℤ, negℤ-negℤ, _+ℤ_, _-ℤ_, subℕ}
-use lib.Signed.{mag, ltZ, nonNeg}
+use lib.IntN.{ℤ, pos, negsuc, negℤ, negℤ-negℤ, natAbs, _+ℤ_, _-ℤ_, subℕ}
+use lib.Signed.{ltZ, nonNeg}
 use mir.Syntax.{w64}
-use mir.Val.{toZ, ofZ}
+use mir.Val.{toZ, ofZ, SFits}
 use mir.ValLaws.{toZ-pos, toZ-ofZ}
+use Rattle.signed_theory.specs.declared.Ends.{Ends}
 use Rattle.signed_theory.specs.Evaluation.{SmallerThan, betweenOf}
+
+-- −2^53 is 2^53 in absolute value, and not below: no such end is smaller than 2^53
+pub minus-2-to-53 : (e : Ends) → (e .low ≡ negℤ (pos (2 ^ 53))) ⊎ (e .high ≡ negℤ (pos (2 ^ 53))) →
+    SmallerThan (2 ^ 53) e → ⊥
+minus-2-to-53 e (inl is) h = lt-irrefl (2 ^ 53) (rw is at (h .low))
+minus-2-to-53 e (inr is) h = lt-irrefl (2 ^ 53) (rw is at (h .high))
 
 -- a u64 below 2 ^ 63, cast to i64
 pub cast : (n : ℕ) → n < 2 ^ 63 → toZ w64 n ≡ pos n
 cast n h = toZ-pos w64 n h
 
--- an i64, read back from its bits
-pub back : (z : ℤ) → mag z < 2 ^ 63 → toZ w64 (ofZ w64 z) ≡ z
-back z h = toZ-ofZ w64 z (record { sfits = h })
+-- a number below 2 ^ 63 in absolute value is an i64
+pub is-i64 : (z : ℤ) → natAbs z < 2 ^ 63 → SFits w64 z
+is-i64 (pos n) h = record { sfits = h }
+is-i64 (negsuc n) h = record { sfits = omega arith }
+
+-- and is read back from its bits
+pub back : (z : ℤ) → natAbs z < 2 ^ 63 → toZ w64 (ofZ w64 z) ≡ z
+back z h = toZ-ofZ w64 z (is-i64 z h)
 
 pub less : (a b : ℕ) → a < b → subℕ a b ≡ negsuc (b - suc a)
 less a b h = simp (lt-ltb a b h)
@@ -32,11 +45,11 @@ pub minus : (n : ℕ) → 0 < n → pos 0 -ℤ pos n ≡ negsuc (n - 1)
 minus zero h = absurd (lt-irrefl 0 h)
 minus (suc n) h = less 0 (suc n) h
 
--- a difference is not greater in size than what both numbers are below
-pub difference-small : (a b n : ℕ) → a < b + n → b < a + n → mag (subℕ a b) < n
+-- a difference is not greater in absolute value than what both numbers are below
+pub difference-small : (a b n : ℕ) → a < b + n → b < a + n → natAbs (subℕ a b) < n
 difference-small a b n ha hb = go (ltb a b) (ltb→lt a b) (nltb→le a b)
   where
-    go : (t : Bool) → (T t → a < b) → (T (not t) → b ≤ a) → mag (subℕ a b) < n
+    go : (t : Bool) → (T t → a < b) → (T (not t) → b ≤ a) → natAbs (subℕ a b) < n
     go true p q = rw (less a b (p tt)) (omega (arith, p tt))
     go false p q = rw (more a b (q tt)) (omega (arith, q tt))
 
@@ -49,11 +62,11 @@ between-small {a} {b} {c} {d} n ha hb hc hd =
           (omega arith);
     }
 
--- a difference whose size is below 2 ^ 63, stored and read back
+-- a difference whose absolute value is below 2 ^ 63, stored and read back
 pub stored : {z : ℤ} (a b : ℕ) → a < b + 2 ^ 63 → b < a + 2 ^ 63 → z ≡ subℕ a b → toZ w64 (ofZ w64 z) ≡ subℕ a b
 stored a b ha hb e = rw e (back (subℕ a b) (difference-small a b (2 ^ 63) ha hb))
 
--- ---- the size of a number below zero
+-- ---- the absolute value of a number below zero
 
 -- −(n + 1) + 1
 up-to : (n : ℕ) → negsuc n +ℤ pos 1 ≡ negℤ (pos n)
@@ -62,12 +75,12 @@ up-to (suc n) =
     let e : suc (suc n) - suc 1 ≡ n = omega arith in
     less 1 (suc (suc n)) (omega arith) ∙ ap negsuc e
 
-neg-small : (n : ℕ) → n < 2 ^ 63 → mag (negℤ (pos n)) < 2 ^ 63
+neg-small : (n : ℕ) → n < 2 ^ 63 → natAbs (negℤ (pos n)) < 2 ^ 63
 neg-small zero h = h
 neg-small (suc n) h = omega arith
 
 -- what each step of −(z + 1) gives, for z = −(n + 1)
-pub plus-one : (n : ℕ) → n < 2 ^ 63 → mag (negsuc n +ℤ pos 1) < 2 ^ 63
+pub plus-one : (n : ℕ) → n < 2 ^ 63 → natAbs (negsuc n +ℤ pos 1) < 2 ^ 63
 plus-one n h = rw (up-to n) (neg-small n h)
 
 pub negated : (n : ℕ) → n < 2 ^ 63 → pos 0 -ℤ toZ w64 (ofZ w64 (negsuc n +ℤ pos 1)) ≡ pos n

@@ -1,13 +1,12 @@
 -- What is computed, in whole numbers.
 use Prim.Native.Nat.{ℕ, _<_}
-use lib.IntN.{subℕ}
-use lib.Signed.{mag}
+use lib.IntN.{natAbs, subℕ}
 use Rattle.signed_theory.specs.declared.Ends.{Ends}
 
--- both ends are below n in size
+-- both ends are below n in absolute value
 pub record SmallerThan (n : ℕ) (e : Ends) : Type 0 where
-  pub low : mag (e .low) < n
-  pub high : mag (e .high) < n
+  pub low : natAbs (e .low) < n
+  pub high : natAbs (e .high) < n
 
 -- from a − b to c − d
 unfoldable pub betweenOf : ℕ → ℕ → ℕ → ℕ → Ends

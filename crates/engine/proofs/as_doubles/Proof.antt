@@ -3,9 +3,8 @@ use mathlib.Core.Path.{_≡_, ap, _∙_, refl}
 use Prim.Native.Nat.{_^_, _<_}
 use native.Mathlib.Omega.{arith}
 use borrow.Author.Needs.{needs}
-use lib.IntN.{ℤ}
+use lib.IntN.{ℤ, natAbs}
 use lib.Ieee.{Float}
-use lib.Signed.{mag}
 use mir.Syntax.{w64}
 use mir.Val.{toZ, ofZ}
 use Rattle.signed_theory.proofs.Laws.{back}
@@ -14,7 +13,7 @@ use Rattle.engine.proofs.as_doubles.Statement.{statement}
 use Rattle.engine.proofs.as_doubles.Tie as tie
 
 -- the double of a field, which is read from its bits, is that of the field
-of-field : {x : Float} (z : ℤ) → mag z < 2 ^ 53 → x ≡ doubleOf (toZ w64 (ofZ w64 z)) → x ≡ doubleOf z
+of-field : {x : Float} (z : ℤ) → natAbs z < 2 ^ 53 → x ≡ doubleOf (toZ w64 (ofZ w64 z)) → x ≡ doubleOf z
 of-field z h e = e ∙ ap doubleOf (back z (omega arith))
 
 returns : tie.Need-returns

@@ -2,7 +2,7 @@
 use mathlib.Core.Path.{refl}
 use Rattle.scenario_theory.proofs.RefusalLaws.{within-boore-atkinson}
 use Rattle.scenario_theory.proofs.RowLaws.{boore-atkinson-row}
-use Rattle.boore_atkinson_theory.specs.Tables.{rowFor, totalFor}
+use Rattle.boore_atkinson_theory.proofs.Rows.{row-at, total-at}
 use Rattle.boore_atkinson_theory.proofs.Accepted.{median-domain}
 use Rattle.engine_theory.specs.Evaluation.{enclosureOf}
 use Rattle.engine.proofs.by_boore_atkinson.Statement.{statement}
@@ -23,11 +23,12 @@ sigma-takes c κs =
     rw (p .row) (boore-atkinson-row (s .period) (w .period))
 
 returns : tie.Need-returns
-unfolding enclosureOf rowFor totalFor
+unfolding enclosureOf
 returns c =
     let m = c .before in
     let p = m .before .pre in
-    rw (p .model, c .sigma .ensures, m .median .ensures, p .row) refl
+    let s = m .before .args .s in
+    rw (p .model, c .sigma .ensures .0, m .median .ensures .0, p .row, row-at (s .period), total-at (s .period)) refl
 
 pub by-boore-atkinson-spec : {M : Type 1} → statement M
 by-boore-atkinson-spec = tie.close (tie.spec median-takes sigma-takes returns)

@@ -3,7 +3,7 @@ use mathlib.Core.Path.{refl}
 use borrow.Author.Needs.{needs}
 use Rattle.scenario_theory.proofs.RefusalLaws.{within-idriss}
 use Rattle.scenario_theory.proofs.RowLaws.{idriss-row}
-use Rattle.idriss_theory.specs.Tables.{rowFor}
+use Rattle.idriss_theory.proofs.Rows.{row-at}
 use Rattle.idriss_theory.proofs.Accepted.{median-domain, sigma-domain}
 use Rattle.engine_theory.specs.Evaluation.{enclosureOf}
 use Rattle.engine.proofs.by_idriss.Statement.{statement}
@@ -22,12 +22,20 @@ sigma-takes c κs =
     sigma-domain (k .args .s) (within-idriss (k .args .s) (k .pre .model) (k .pre .accepted))
 
 returns : tie.Need-returns
-unfolding enclosureOf rowFor
+unfolding enclosureOf
 returns c =
     let m = c .before in
     let t = m .before in
     let p = t .before .pre in
-    rw (p .model, c .sigma .ensures, m .median .ensures, p .row, t .takes-table-3 .ensures) refl
+    let s = t .before .args .s in
+    rw (
+      p .model,
+      c .sigma .ensures .0,
+      m .median .ensures .0,
+      p .row,
+      t .takes-table-3 .ensures,
+      row-at (s .magnitude) (s .period),
+    ) refl
 
 pub by-idriss-spec : {M : Type 1} → statement M
 by-idriss-spec = tie.close (tie.spec (λ c κs. search needs) median-takes sigma-takes returns)

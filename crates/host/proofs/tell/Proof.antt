@@ -3,8 +3,7 @@ use mathlib.Core.Path.{_≡_, refl, subst}
 use Prim.Native.Nat.{_^_, _<_}
 use native.Mathlib.Omega.{arith}
 use borrow.Author.Needs.{needs}
-use lib.IntN.{ℤ}
-use lib.Signed.{mag}
+use lib.IntN.{ℤ, natAbs}
 use mir.Syntax.{w64}
 use mir.Val.{toZ, ofZ}
 use Rattle.signed_theory.proofs.Laws.{back}
@@ -16,7 +15,7 @@ use Rattle.host.proofs.tell.Statement.{statement}
 use Rattle.host.proofs.tell.Tie as tie
 
 -- an end, read back from its bits
-end : (z : ℤ) → mag z < 2 ^ 53 → toZ w64 (ofZ w64 z) ≡ z
+end : (z : ℤ) → natAbs z < 2 ^ 53 → toZ w64 (ofZ w64 z) ≡ z
 end z h = back z (omega arith)
 
 is-told : (e : Enclosure) {a b c d : ℤ} → a ≡ e .median .low → b ≡ e .median .high → c ≡ e .sigma .low →

@@ -1,9 +1,10 @@
 -- `ln_hundredths` meets its contract.
-use mathlib.Core.Path.{_∙_, ap}
+use mathlib.Core.Path.{_≡_, _∙_, ap}
 use native.Mathlib.Omega.{arith}
 use borrow.Author.Needs.{needs}
-use Rattle.logarithm_theory.specs.Evaluation.{scaledLnOf}
+use Rattle.logarithm_theory.specs.Evaluation.{scaledOf, scaledLnOf}
 use Rattle.logarithm_theory.proofs.Octave.{scales, unequal}
+use Rattle.logarithm_theory.proofs.Laws.{ln-ends}
 use Rattle.logarithm.proofs.ln_hundredths.Statement.{statement}
 use Rattle.logarithm.proofs.ln_hundredths.Tie as tie
 
@@ -11,8 +12,9 @@ returns : tie.Need-returns
 returns c =
     let s = c .before in
     let k = s .before in
-    unequal (k .args .a) 100 (λ e. omega arith)
-    (c .scaled-ln .ensures ∙ ap scaledLnOf (s .scale .ensures))
+    let scaled : s .scale .result ≡ scaledOf (k .args .a) 100 = s .scale .ensures in
+    ln-ends (k .pre .0)
+    (unequal (k .args .a) 100 (λ e. omega arith) (c .scaled-ln .ensures ∙ ap scaledLnOf scaled))
 
 pub ln-hundredths-spec : {M : Type 1} → statement M
 ln-hundredths-spec =

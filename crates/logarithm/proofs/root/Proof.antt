@@ -1,12 +1,13 @@
 -- `root` meets its contract.
 use borrow.Author.Needs.{needs}
 use Rattle.logarithm_theory.specs.Evaluation.{rootOf}
+use Rattle.logarithm_theory.proofs.Laws.{rootOf-promise}
 use Rattle.logarithm.proofs.root.Statement.{statement}
 use Rattle.logarithm.proofs.root.Tie as tie
 
 returns : tie.Need-returns
 unfolding rootOf
-returns c = c .whole-root .ensures
+returns c = let e = c .whole-root .ensures in (e, rw e (rootOf-promise (c .before .args .x)))
 
 pub root-spec : {M : Type 1} → statement M
 root-spec = tie.close (tie.spec (λ c. search needs) (λ c κs. search needs) returns)

@@ -7,7 +7,7 @@ use Rattle.outward.proofs.span.Tie as tie
 
 returns : tie.Need-returns
 unfolding spanOf
-returns c = rw (c .before .lesser .ensures, c .greater .ensures) refl
+returns c = rw (c .before .min .ensures, c .max .ensures) refl
 
 pub span-spec : {M : Type 1} → statement M
 span-spec = tie.close (tie.spec (λ c κs. search needs) (λ c κs. search needs) returns)

@@ -3,7 +3,6 @@ use mathlib.Core.Path.{_∙_, ap, refl}
 use borrow.Author.Needs.{needs}
 use Rattle.scenario_theory.specs.declared.Scenario.{Scenario}
 use Rattle.boore_atkinson_theory.proofs.Accepted.{median-domain}
-use Rattle.boore_atkinson_theory.proofs.Laws.{medianOf-promise}
 use Rattle.engine_theory.specs.Evaluation.{scenarioWith}
 use Rattle.probes.specs.Probe.{told, probedBooreAtkinson}
 use Rattle.probes.proofs.Domains.{row-taken, second-taken, is-told, is-none}
@@ -19,15 +18,12 @@ takes c κs =
     let s = asked (c .before .before) in
     median-domain s (row-taken _ s t (c .if1 .taken)) (second-taken _ s t refl (c .if1 .taken))
 
-small : tie.Need-tell-requires
-small c κs = rw (c .median .ensures) (medianOf-promise _ (takes (c .before) κs) .small)
-
 answered : tie.Need-returns
 unfolding probedBooreAtkinson
 answered c =
     let i = c .before .before in
     is-told _ (asked (i .before .before)) (i .before .taken .ensures) (i .if1 .taken)
-    (c .tell .ensures ∙ ap told (c .before .median .ensures))
+    (c .tell .ensures ∙ ap told (c .before .median .ensures .0))
 
 none : tie.Need-returns-2
 unfolding probedBooreAtkinson
@@ -38,4 +34,4 @@ none c =
 pub probe-boore-atkinson-spec : {M : Type 1} → statement M
 probe-boore-atkinson-spec =
     tie.close
-    (tie.spec (λ c κs. search needs) takes small answered (λ c κs. search needs) none)
+    (tie.spec (λ c κs. search needs) takes (λ c κs. search needs) answered (λ c κs. search needs) none)

@@ -2,7 +2,6 @@
 use mathlib.Core.Path.{_∙_, ap}
 use borrow.Author.Needs.{needs}
 use Rattle.scenario_theory.specs.declared.Scenario.{Scenario}
-use Rattle.boore_atkinson_theory.proofs.Laws.{sigmaOf-promise}
 use Rattle.engine_theory.specs.Evaluation.{scenarioWith}
 use Rattle.probes.specs.Probe.{told, probedBooreAtkinsonSigma}
 use Rattle.probes.proofs.Domains.{row-taken, is-told, is-none}
@@ -16,15 +15,12 @@ takes : tie.Need-sigma-requires
 takes c κs =
     row-taken _ (asked (c .before .before)) (c .before .taken .ensures) (c .if1 .taken)
 
-small : tie.Need-tell-requires
-small c κs = rw (c .sigma .ensures) (sigmaOf-promise _ _ (takes (c .before) κs) .small)
-
 answered : tie.Need-returns
 unfolding probedBooreAtkinsonSigma
 answered c =
     let i = c .before .before in
     is-told _ (asked (i .before .before)) (i .before .taken .ensures) (i .if1 .taken)
-    (c .tell .ensures ∙ ap told (c .before .sigma .ensures))
+    (c .tell .ensures ∙ ap told (c .before .sigma .ensures .0))
 
 none : tie.Need-returns-2
 unfolding probedBooreAtkinsonSigma
@@ -35,4 +31,4 @@ none c =
 pub probe-boore-atkinson-sigma-spec : {M : Type 1} → statement M
 probe-boore-atkinson-sigma-spec =
     tie.close
-    (tie.spec (λ c κs. search needs) takes small answered (λ c κs. search needs) none)
+    (tie.spec (λ c κs. search needs) takes (λ c κs. search needs) answered (λ c κs. search needs) none)

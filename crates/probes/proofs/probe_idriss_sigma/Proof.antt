@@ -3,7 +3,6 @@ use mathlib.Core.Path.{_∙_, ap, refl}
 use borrow.Author.Needs.{needs}
 use Rattle.scenario_theory.specs.declared.Scenario.{Scenario}
 use Rattle.idriss_theory.proofs.Accepted.{sigma-domain}
-use Rattle.idriss_theory.proofs.SigmaLaws.{sigmaOf-promise}
 use Rattle.engine_theory.specs.Evaluation.{scenarioWith}
 use Rattle.probes.specs.Probe.{told, probedIdrissSigma}
 use Rattle.probes.proofs.Domains.{idriss-taken, is-told, is-none}
@@ -18,15 +17,12 @@ takes c κs =
     let s = asked (c .before .before) in
     sigma-domain s (idriss-taken _ s (c .before .taken .ensures) refl (c .if1 .taken))
 
-small : tie.Need-tell-requires
-small c κs = rw (c .sigma .ensures) (sigmaOf-promise _ _ (takes (c .before) κs) .small)
-
 answered : tie.Need-returns
 unfolding probedIdrissSigma
 answered c =
     let i = c .before .before in
     is-told _ (asked (i .before .before)) (i .before .taken .ensures) (i .if1 .taken)
-    (c .tell .ensures ∙ ap told (c .before .sigma .ensures))
+    (c .tell .ensures ∙ ap told (c .before .sigma .ensures .0))
 
 none : tie.Need-returns-2
 unfolding probedIdrissSigma
@@ -37,4 +33,4 @@ none c =
 pub probe-idriss-sigma-spec : {M : Type 1} → statement M
 probe-idriss-sigma-spec =
     tie.close
-    (tie.spec (λ c κs. search needs) takes small answered (λ c κs. search needs) none)
+    (tie.spec (λ c κs. search needs) takes (λ c κs. search needs) answered (λ c κs. search needs) none)

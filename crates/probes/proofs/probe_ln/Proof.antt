@@ -24,7 +24,7 @@ unfolding probedLn
 returns-4 c =
     let t = c .before in
     simp (ne-eqb _ _ (t .before .before .if1 .left), le-ltb _ _ (t .before .if2 .left), lt-leb _ _ (t .if3 .left))
-    (rw (c .ln .ensures) refl)
+    (rw (c .ln .ensures .0) refl)
 
 pub probe-ln-spec : {M : Type 1} → statement M
 probe-ln-spec = tie.close (tie.spec returns returns-2 returns-3 (λ c κs. search needs) returns-4)

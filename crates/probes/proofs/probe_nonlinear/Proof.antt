@@ -3,7 +3,6 @@ use mathlib.Core.Path.{_∙_, ap, refl}
 use borrow.Author.Tests.{lt-ltb, le-ltb}
 use borrow.Author.Needs.{needs}
 use Rattle.scenario_theory.specs.declared.Scenario.{Scenario}
-use Rattle.boore_atkinson_theory.proofs.Laws.{nonlinear-promise}
 use Rattle.engine_theory.specs.Evaluation.{scenarioWith}
 use Rattle.probes.specs.Probe.{told, probedNonlinear}
 use Rattle.probes.proofs.Domains.{row-taken, second-taken, is-told, is-none}
@@ -30,9 +29,6 @@ takes c κs =
       order = i .if1 .left;
     }
 
-small : tie.Need-tell-requires
-small c κs = rw (c .nonlinear .ensures) (nonlinear-promise (takes (c .before) κs) .small)
-
 answered : tie.Need-returns-2
 unfolding probedNonlinear
 answered c =
@@ -40,7 +36,7 @@ answered c =
     let o = i .before .before in
     rw (le-ltb _ _ (o .if1 .left))
     (is-told _ (asked (o .before)) (i .before .taken .ensures) (i .if2 .taken)
-    (c .tell .ensures ∙ ap told (c .before .nonlinear .ensures)))
+    (c .tell .ensures ∙ ap told (c .before .nonlinear .ensures .0)))
 
 none : tie.Need-returns-3
 unfolding probedNonlinear
@@ -54,4 +50,5 @@ pub probe-nonlinear-spec : {M : Type 1} → statement M
 probe-nonlinear-spec =
     tie.close
     (tie.spec
-    (λ c κs. search needs) out-of-order (λ c κs. search needs) takes small answered (λ c κs. search needs) none)
+    (λ c κs. search needs) out-of-order (λ c κs. search needs) takes (λ c κs. search needs) answered
+    (λ c κs. search needs) none)

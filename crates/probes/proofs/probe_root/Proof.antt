@@ -11,7 +11,7 @@ returns c = simp (le-leb _ _ (c .if1 .taken))
 
 returns-2 : tie.Need-returns-2
 unfolding probedRoot
-returns-2 c = simp (lt-leb _ _ (c .before .if1 .left)) (c .root .ensures)
+returns-2 c = simp (lt-leb _ _ (c .before .if1 .left)) (c .root .ensures .0)
 
 pub probe-root-spec : {M : Type 1} → statement M
 probe-root-spec = tie.close (tie.spec returns (λ c κs. search needs) returns-2)

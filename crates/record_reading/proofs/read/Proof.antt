@@ -1,18 +1,25 @@
 -- `read` meets its contract.
 use mathlib.Core.Path.{_≡_, sym, ap, _∙_}
+use native.Mathlib.Omega.{arith}
 use borrow.Author.Needs.{needs}
 use Rattle.record_theory.specs.declared.Reading.the-variants as R
+use Rattle.record_theory.specs.Layout.{Bytes}
 use Rattle.record_theory.specs.Outcome.{mapIn, scenarioIn, readOf, ReadPromise}
 use Rattle.record_theory.specs.Steps.{fieldRefusal}
 use Rattle.record_theory.proofs.ReadingLaws.{front-passes, refused-front, refused-fields, is-read}
 use Rattle.record_reading.proofs.read.Statement.{statement}
 use Rattle.record_reading.proofs.read.Tie as tie
 
+-- the elements of a slice of u8 are bytes
+are-bytes : (c : tie.After-shared-slice-known) → Bytes (c .before .args .s .now)
+are-bytes c i = omega (arith, c .shared-slice-known .given i)
+
 front-refused : tie.Need-returns
 front-refused c =
-    let k = c .before .front-refusal in
+    let f = c .before in
+    let k = f .front-refusal in
     let r = refused-front _ (k .result) (k .ensures) (c .if1 .taken) in
-    (r .answer, r .promise)
+    (r .answer, (r .promise, are-bytes (f .before)))
 
 some : tie.Need-shared-slice-read-m
 some c =
@@ -35,7 +42,7 @@ fields-refused c =
     k .ensures ∙ ap (fieldRefusal (mapIn s)) (x .ensures) in
     let front = sym (e .before .front-refusal .ensures) ∙ e .if1 .left in
     let r = refused-fields s (k .result) front number (c .if2 .taken) in
-    (r .answer, r .promise)
+    (r .answer, (r .promise, are-bytes (e .before .before)))
 
 map-passes : tie.Need-record-length-requires
 map-passes c κs =
@@ -55,7 +62,7 @@ read c =
     rw (x .ensures, c .record-length .ensures) (r .answer) in
     let promise : ReadPromise s (R.Read (x .result) (c .record-length .result)) =
     rw (x .ensures, c .record-length .ensures) (r .promise) in
-    (answer, promise)
+    (answer, (promise, are-bytes (e .before .before)))
 
 pub read-spec : {M : Type 1} → statement M
 read-spec =

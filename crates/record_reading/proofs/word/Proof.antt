@@ -7,11 +7,9 @@ use lib.ListN.{getD}
 use Rattle.record_theory.proofs.FieldLaws.{word-at}
 use Rattle.record_reading.proofs.word.Statement.{statement}
 use Rattle.record_reading.proofs.word.Tie as tie
-use Rattle.record_reading.proofs.word.Reads as reads
-use Rattle.record_reading.proofs.word.Lts as lts
 
 -- both are bytes
-module _ (c : lts.After-shared-slice-known2 reads.Pre reads.Post) where
+module _ (c : tie.After-shared-slice-known2) where
   low : getD (c .before .before .args .s .now) (c .before .before .args .at) 0 < 256
   low = omega (arith, c .shared-slice-known2 .given (c .before .before .args .at))
 

@@ -1,4 +1,4 @@
--- `size` meets its contract.
+-- `unsigned_abs` meets its contract.
 use mathlib.Core.Path.{_≡_, sym, subst, ap, _∙_}
 use mathlib.Core.Bool.{true, false}
 use Prim.Native.Nat.{ℕ, _^_, _<_}
@@ -10,9 +10,9 @@ use lib.Signed.{mag, ltZ}
 use mir.Syntax.{w64}
 use mir.Val.{toZ, ofZ, SFits, Fits}
 use mir.ValLaws.{toZ-ofZ}
-use Rattle.signed_theory.proofs.Laws.{back, plus-one, negated, below-zero, not-below}
-use Rattle.signed.proofs.size.Statement.{statement}
-use Rattle.signed.proofs.size.Tie as tie
+use Rattle.signed_theory.proofs.Laws.{is-i64, back, plus-one, negated, below-zero, not-below}
+use Rattle.signed.proofs.unsigned_abs.Statement.{statement}
+use Rattle.signed.proofs.unsigned_abs.Tie as tie
 
 -- z is −(n + 1)
 record Minus (z : ℤ) : Type 0 where
@@ -31,7 +31,7 @@ found : (c : tie.Then1) → Minus (c .before .args .z)
 found c = minus (c .before .args .z) (c .before .fits .z) (c .if1 .taken)
 
 adds : tie.Need-add-result
-adds c = let h = found c in rw (h .is) (record { sfits = plus-one (h .n) (h .small) })
+adds c = let h = found c in rw (h .is) (is-i64 _ (plus-one (h .n) (h .small)))
 
 negates : tie.Need-sub-result
 negates c = let h = found c in rw (h .is, negated (h .n) (h .small)) (record { sfits = h .small })
@@ -61,5 +61,5 @@ casts-same c =
     let e = toZ-ofZ w64 z (c .before .fits .z) in
     rw e (not-below z (subst (λ (y : ℤ). ltZ y (pos 0) ≡ false) e (c .if1 .left)), fit z (c .before .fits .z))
 
-pub size-spec : {M : Type 1} → statement M
-size-spec = tie.close (tie.spec adds negates casts adds-back below casts-same (λ c. search needs))
+pub unsigned-abs-spec : {M : Type 1} → statement M
+unsigned-abs-spec = tie.close (tie.spec adds negates casts adds-back below casts-same (λ c. search needs))
