@@ -4,65 +4,68 @@ ghost use mathlib.Core.Bool.{cond};
 ghost use Prim.Native.Nat.{_<_};
 ghost use lib.Dec.{eqb};
 ghost use Rattle.scenario_theory.specs.Rows.{rowCount};
-ghost use Rattle.boore_atkinson_theory.specs.Tables.{rowAt, totalAt};
-ghost use Rattle.boore_atkinson_theory.specs.Promise.{MedianDomain, NonlinearDomain};
+ghost use Rattle.boore_atkinson_theory.specs.Rows.{rowAt, totalAt};
+ghost use Rattle.boore_atkinson_theory.specs.Promise.{MedianDomain, MedianEnds, NonlinearDomain, NonlinearEnds};
+ghost use Rattle.boore_atkinson_theory.specs.Promise.{SigmaEnds};
 ghost use Rattle.boore_atkinson_theory.specs.Evaluation.{plusOf, endsOf, medianOf, nonlinearEndsOf, sigmaOf};
-ghost use Rattle.boore_atkinson_theory.specs.Sizes.{MotionSized};
+ghost use Rattle.boore_atkinson_theory.specs.Sizes.{SignedSized};
 use boore_atkinson_rock as rock;
 use boore_atkinson_site as site;
 use boore_atkinson_tables as table;
-use boore_atkinson_theory::Motion;
+use boore_atkinson_theory::SignedPair;
 use boore_atkinson_theory::TotalRow;
 use signed::between;
 
-fn plus(a: Motion, b: Motion) -> Motion
-    requires { ⌜ MotionSized a 400_000_000_000 400_000_000_000 × MotionSized b 400_000_000_000 400_000_000_000 ⌝ }
+fn plus(a: SignedPair, b: SignedPair) -> SignedPair
+    requires { ⌜ SignedSized a 400_000_000_000 400_000_000_000 × SignedSized b 400_000_000_000 400_000_000_000 ⌝ }
     ensures { λ r. ⌜ r ≡ plusOf a b ⌝ }
 {
-    Motion {
+    SignedPair {
         gain: outward::sum(a.gain, b.gain),
         loss: outward::sum(a.loss, b.loss),
     }
 }
 
-fn ends(a: Motion) -> signed_theory::Ends
-    requires { ⌜ MotionSized a 800_000_000_000 800_000_000_000 ⌝ }
+fn ends(a: SignedPair) -> signed_theory::Ends
+    requires { ⌜ SignedSized a 800_000_000_000 800_000_000_000 ⌝ }
     ensures { λ r. ⌜ r ≡ endsOf a ⌝ }
 {
     between(a.gain.low, a.loss.high, a.gain.high, a.loss.low)
 }
 
-// The median by row k of the tables, 0 for PGA. What is promised of it is MedianEnds of boore_atkinson_theory.
+// The median by row k of the tables, 0 for PGA.
 pub fn median(
     k: usize,
     magnitude: u16,
     projection_distance: u16,
-    velocity: u16,
+    vs30: u16,
     mechanism: u8,
 ) -> signed_theory::Ends
-    requires { ⌜ MedianDomain k magnitude «projection_distance» velocity ⌝ }
-    ensures { λ r. ⌜ r ≡ medianOf (rowAt k) magnitude «projection_distance» velocity mechanism ⌝ }
+    requires { ⌜ MedianDomain k magnitude «projection_distance» vs30 ⌝ }
+    ensures { λ r. ⌜ r ≡ medianOf (rowAt k) magnitude «projection_distance» vs30 mechanism ⌝ }
+    ensures { λ r. ⌜ MedianEnds (rowAt k) magnitude «projection_distance» vs30 mechanism r ⌝ }
 {
     let m = magnitude as u64;
     let d = projection_distance as u64;
-    let v = velocity as u64;
+    let v = vs30 as u64;
     let row = table::distance_at(k);
     let effective = rock::effective_distance(d, row.4 as u64);
     let motion = rock::rock(row, table::magnitude_at(k), m, effective, mechanism);
     let s = table::site_at(k);
-    let l = site::velocity_ln(v);
+    let l = site::vs30_ln(v);
     let linear = site::linear(s, v, l);
-    let nonlinear = site::nonlinear_part(s, v, l, rock::below_for(v, m, d, mechanism));
+    let nonlinear = site::nonlinear_part(s, v, l, rock::minus_p_for(v, m, d, mechanism));
     ends(plus(plus(motion, linear), nonlinear))
 }
 
-// The nonlinear part by row k, where −p lies in b. What is promised of it is NonlinearEnds of boore_atkinson_theory.
-pub fn nonlinear(k: usize, velocity: u16, b: logarithm_theory::Ends) -> signed_theory::Ends
-    requires { ⌜ NonlinearDomain k velocity b ⌝ }
-    ensures { λ r. ⌜ r ≡ nonlinearEndsOf (rowAt k .site) velocity b ⌝ }
+// The nonlinear part by row k, where −p lies in b.
+pub fn nonlinear(k: usize, vs30: u16, b: logarithm_theory::Ends) -> signed_theory::Ends
+    requires { ⌜ NonlinearDomain k vs30 b ⌝ }
+    ensures { λ r. ⌜ r ≡ nonlinearEndsOf (rowAt k .site) vs30 b ⌝ }
+    ensures { λ r. ⌜ NonlinearEnds (rowAt k .site) vs30 b r ⌝ }
 {
-    let v = velocity as u64;
-    ends(site::nonlinear_part(table::site_at(k), v, site::velocity_ln(v), b))
+    let v = vs30 as u64;
+    ends(site::nonlinear_part(table::site_at(k), v, site::vs30_ln(v), b))
 }
 
 // The total for a fault type that is unspecified, code 9, or specified.
@@ -75,10 +78,11 @@ fn total(t: TotalRow, mechanism: u8) -> u32
     t.1
 }
 
-// Sigma by row k. What is promised of it is SigmaEnds of boore_atkinson_theory.
+// Sigma by row k.
 pub fn sigma(k: usize, mechanism: u8) -> signed_theory::Ends
     requires { ⌜ k < rowCount ⌝ }
     ensures { λ r. ⌜ r ≡ sigmaOf (totalAt k) mechanism ⌝ }
+    ensures { λ r. ⌜ SigmaEnds (totalAt k) mechanism r ⌝ }
 {
     let z = 1_000_000 * total(table::total_at(k), mechanism) as u64;
     between(z, 0, z, 0)

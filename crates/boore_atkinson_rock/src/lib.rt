@@ -4,13 +4,13 @@ ghost use Prim.Native.Nat.{_≤_, _+_, _*_};
 ghost use Rattle.outward_theory.specs.Evaluation.{Sized};
 ghost use Rattle.boore_atkinson_theory.specs.Rows.{DistanceLimits, MagnitudeLimits};
 ghost use Rattle.boore_atkinson_theory.specs.Evaluation.{effectiveOf, spreadOf, fallOf, levelOf, magnitudeOf, rockOf};
-ghost use Rattle.boore_atkinson_theory.specs.Evaluation.{belowOf, belowFor};
-ghost use Rattle.boore_atkinson_theory.specs.Sizes.{EffectiveSized, MagnitudeBounds, Small, MotionSized};
+ghost use Rattle.boore_atkinson_theory.specs.Evaluation.{minusPOf, minusPFor};
+ghost use Rattle.boore_atkinson_theory.specs.Sizes.{EffectiveSized, MagnitudeBounds, Small, SignedSized};
 use boore_atkinson_theory::DistanceRow;
 use boore_atkinson_theory::EffectiveDistance;
 use boore_atkinson_theory::Exact;
 use boore_atkinson_theory::MagnitudeRow;
-use boore_atkinson_theory::Motion;
+use boore_atkinson_theory::SignedPair;
 use logarithm_theory::Ends;
 
 // R, from a projection distance and h.
@@ -95,14 +95,20 @@ fn magnitude_term(r: MagnitudeRow, m: u64, mechanism: u8) -> Exact
 }
 
 // The motion on rock by a row's two parts.
-pub fn rock(r: DistanceRow, q: MagnitudeRow, m: u64, s: EffectiveDistance, mechanism: u8) -> Motion
+pub fn rock(
+    r: DistanceRow,
+    q: MagnitudeRow,
+    m: u64,
+    s: EffectiveDistance,
+    mechanism: u8,
+) -> SignedPair
     requires { ⌜ DistanceLimits r × MagnitudeLimits q × (500 ≤ m) × (m ≤ 800) × EffectiveSized s ⌝ }
-    ensures { λ a. ⌜ (a ≡ rockOf r q m s mechanism) × MotionSized a 4 80_000_000_000 ⌝ }
+    ensures { λ a. ⌜ (a ≡ rockOf r q m s mechanism) × SignedSized a 4 80_000_000_000 ⌝ }
 {
     let f = fall(r, m, s);
     let g = magnitude_term(q, m, mechanism);
     let gain = g.gain + 10_000 * r.3 as u64;
-    Motion {
+    SignedPair {
         gain: Ends {
             low: gain,
             high: gain,
@@ -115,9 +121,9 @@ pub fn rock(r: DistanceRow, q: MagnitudeRow, m: u64, s: EffectiveDistance, mecha
 }
 
 // −p, p the logarithm of the rock acceleration.
-pub fn below(m: u64, projection_distance: u64, mechanism: u8) -> Ends
+pub fn minus_p(m: u64, projection_distance: u64, mechanism: u8) -> Ends
     requires { ⌜ (500 ≤ m) × (m ≤ 800) × («projection_distance» ≤ 19_999) ⌝ }
-    ensures { λ b. ⌜ (b ≡ belowOf m «projection_distance» mechanism) × Sized b 4 80_000_000_000 ⌝ }
+    ensures { λ b. ⌜ (b ≡ minusPOf m «projection_distance» mechanism) × Sized b 4 80_000_000_000 ⌝ }
 {
     let r = boore_atkinson_tables::pga_distance();
     let s = effective_distance(projection_distance, r.4 as u64);
@@ -129,12 +135,12 @@ pub fn below(m: u64, projection_distance: u64, mechanism: u8) -> Ends
 }
 
 // −p as the median rests on it: from 760 m/s on the slope is 0, p has no part in it, and 0 stands for −p.
-pub fn below_for(v: u64, m: u64, projection_distance: u64, mechanism: u8) -> Ends
+pub fn minus_p_for(v: u64, m: u64, projection_distance: u64, mechanism: u8) -> Ends
     requires { ⌜ (500 ≤ m) × (m ≤ 800) × («projection_distance» ≤ 19_999) ⌝ }
-    ensures { λ b. ⌜ (b ≡ belowFor v m «projection_distance» mechanism) × Sized b 4 80_000_000_000 ⌝ }
+    ensures { λ b. ⌜ (b ≡ minusPFor v m «projection_distance» mechanism) × Sized b 4 80_000_000_000 ⌝ }
 {
     if 7_600 <= v {
         return Ends { low: 0, high: 0 };
     }
-    below(m, projection_distance, mechanism)
+    minus_p(m, projection_distance, mechanism)
 }

@@ -3,16 +3,17 @@ ghost use mathlib.Core.Path.{_≡_};
 ghost use Prim.Native.Nat.{_≤_, _<_};
 ghost use Rattle.outward_theory.specs.Evaluation.{Sized};
 ghost use Rattle.boore_atkinson_theory.specs.Rows.{SiteLimits};
-ghost use Rattle.boore_atkinson_theory.specs.Evaluation.{exactly, velocityLnOf, linearOf, slowSlopeOf, fastSlopeOf};
+ghost use Rattle.boore_atkinson_theory.specs.Evaluation.{exactly, vs30LnOf, linearOf, slowSlopeOf, fastSlopeOf};
 ghost use Rattle.boore_atkinson_theory.specs.Evaluation.{slopeOf, zOf, cubicOf, straightOf, branchOf, curveOf};
 ghost use Rattle.boore_atkinson_theory.specs.Evaluation.{nonlinearOf};
-ghost use Rattle.boore_atkinson_theory.specs.Constants.{minusLnA2, vrefTenths, v2Tenths, v1Tenths};
-ghost use Rattle.boore_atkinson_theory.specs.Sizes.{MotionSized, curveMost};
-use boore_atkinson_theory::Motion;
+ghost use Rattle.boore_atkinson_theory.specs.Constants.{minusLnA2};
+ghost use Rattle.boore_atkinson_theory.specs.Tables.{Vref, V2, V1};
+ghost use Rattle.boore_atkinson_theory.specs.Sizes.{SignedSized, curveMost};
+use boore_atkinson_theory::SignedPair;
 use boore_atkinson_theory::SiteRow;
 use logarithm_theory::Ends;
-use outward::greater;
-use outward::lesser;
+use outward::max;
+use outward::min;
 use outward::multiple;
 use outward::product;
 use outward::span;
@@ -50,10 +51,10 @@ fn exact(n: u64) -> Ends
     Ends { low: n, high: n }
 }
 
-// The size of ln(V/760), which the linear part and the slope have in common.
-pub fn velocity_ln(v: u64) -> Ends
-    requires { ⌜ (v1Tenths ≤ v) × (v ≤ 13_000) ⌝ }
-    ensures { λ l. ⌜ l ≡ velocityLnOf v ⌝ }
+// The absolute value of ln(V/760), which the linear part and the slope have in common.
+pub fn vs30_ln(v: u64) -> Ends
+    requires { ⌜ (V1 ≤ v) × (v ≤ 13_000) ⌝ }
+    ensures { λ l. ⌜ l ≡ vs30LnOf v ⌝ }
 {
     if v < 7_600 {
         return logarithm::ln(7_600, v);
@@ -61,19 +62,19 @@ pub fn velocity_ln(v: u64) -> Ends
     logarithm::ln(v, 7_600)
 }
 
-// blin ln(V/760), where l is the size of the logarithm.
-pub fn linear(s: SiteRow, v: u64, l: Ends) -> Motion
-    requires { ⌜ SiteLimits s × (v1Tenths ≤ v) × (v ≤ 13_000) × (l ≡ velocityLnOf v) ⌝ }
-    ensures { λ a. ⌜ (a ≡ linearOf s v) × MotionSized a 3 16_000_000_000 ⌝ }
+// blin ln(V/760), where l is the absolute value of the logarithm.
+pub fn linear(s: SiteRow, v: u64, l: Ends) -> SignedPair
+    requires { ⌜ SiteLimits s × (V1 ≤ v) × (v ≤ 13_000) × (l ≡ vs30LnOf v) ⌝ }
+    ensures { λ a. ⌜ (a ≡ linearOf s v) × SignedSized a 3 16_000_000_000 ⌝ }
 {
     let term = multiple(20_000 * s.0 as u64, l);
     if v < 7_600 {
-        return Motion {
+        return SignedPair {
             gain: term,
             loss: exact(0),
         };
     }
-    Motion {
+    SignedPair {
         gain: exact(0),
         loss: term,
     }
@@ -81,7 +82,7 @@ pub fn linear(s: SiteRow, v: u64, l: Ends) -> Motion
 
 // −bnl from 180 to 300 m/s.
 fn slow_slope(s: SiteRow, v: u64) -> Ends
-    requires { ⌜ SiteLimits s × (v1Tenths ≤ v) × (v ≤ v2Tenths) ⌝ }
+    requires { ⌜ SiteLimits s × (V1 ≤ v) × (v ≤ V2) ⌝ }
     ensures { λ n. ⌜ (n ≡ slowSlopeOf s v) × Sized n 6 900_000_000 ⌝ }
 {
     let ratio = product(logarithm::ln(3_000, v), OVER_SLOW);
@@ -94,16 +95,16 @@ fn slow_slope(s: SiteRow, v: u64) -> Ends
 
 // −bnl from 300 to 760 m/s, where l is ln(760/V).
 fn fast_slope(s: SiteRow, v: u64, l: Ends) -> Ends
-    requires { ⌜ SiteLimits s × (v2Tenths ≤ v) × (v < vrefTenths) × (l ≡ velocityLnOf v) ⌝ }
+    requires { ⌜ SiteLimits s × (V2 ≤ v) × (v < Vref) × (l ≡ vs30LnOf v) ⌝ }
     ensures { λ n. ⌜ (n ≡ fastSlopeOf s v) × Sized n 6 900_000_000 ⌝ }
 {
     let ratio = product(l, OVER_FAST);
     multiple(200_000 * s.2 as u64, ratio)
 }
 
-// −bnl, where l is the size of ln(V/760).
+// −bnl, where l is the absolute value of ln(V/760).
 fn slope(s: SiteRow, v: u64, l: Ends) -> Ends
-    requires { ⌜ SiteLimits s × (v1Tenths ≤ v) × (l ≡ velocityLnOf v) ⌝ }
+    requires { ⌜ SiteLimits s × (V1 ≤ v) × (l ≡ vs30LnOf v) ⌝ }
     ensures { λ n. ⌜ (n ≡ slopeOf s v) × Sized n 6 900_000_000 ⌝ }
 {
     if v <= 1_800 {
@@ -124,8 +125,8 @@ fn transition_z(b: Ends) -> Ends
     ensures { λ z. ⌜ (z ≡ zOf b) × Sized z 1_098_612_290 1_098_612_290 ⌝ }
 {
     Ends {
-        low: 3_506_557_897 - lesser(b.high, 3_506_557_897),
-        high: 3_506_557_898 - greater(b.low, 2_407_945_608),
+        low: 3_506_557_897 - min(b.high, 3_506_557_897),
+        high: 3_506_557_898 - max(b.low, 2_407_945_608),
     }
 }
 
@@ -144,7 +145,7 @@ fn straight(b: Ends) -> Ends
     ensures { λ q. ⌜ (q ≡ straightOf b) × Sized q curveMost curveMost ⌝ }
 {
     Ends {
-        low: 2_813_410_715 - lesser(b.high, 2_407_945_609),
+        low: 2_813_410_715 - min(b.high, 2_407_945_609),
         high: 2_813_410_718 - b.low,
     }
 }
@@ -179,13 +180,13 @@ fn curve(b: Ends) -> Ends
     span(exact(0), u)
 }
 
-// The nonlinear part, where l is the size of ln(V/760), and −p lies in b.
-pub fn nonlinear_part(s: SiteRow, v: u64, l: Ends, b: Ends) -> Motion
-    requires { ⌜ SiteLimits s × (v1Tenths ≤ v) × (l ≡ velocityLnOf v) × (b .low ≤ b .high) ⌝ }
-    ensures { λ a. ⌜ (a ≡ nonlinearOf s v b) × MotionSized a 2_554_920_006 2_538_000_001 ⌝ }
+// The nonlinear part, where l is the absolute value of ln(V/760), and −p lies in b.
+pub fn nonlinear_part(s: SiteRow, v: u64, l: Ends, b: Ends) -> SignedPair
+    requires { ⌜ SiteLimits s × (V1 ≤ v) × (l ≡ vs30LnOf v) × (b .low ≤ b .high) ⌝ }
+    ensures { λ a. ⌜ (a ≡ nonlinearOf s v b) × SignedSized a 2_554_920_006 2_538_000_001 ⌝ }
 {
     let n = slope(s, v, l);
-    Motion {
+    SignedPair {
         gain: product(n, MINUS_LN_LOW),
         loss: product(n, curve(b)),
     }

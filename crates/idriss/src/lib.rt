@@ -5,11 +5,12 @@ ghost use Prim.Native.Nat.{_≤_};
 ghost use Rattle.toolbox_theory.specs.Lists.{among};
 ghost use Rattle.outward_theory.specs.Evaluation.{Sized};
 ghost use Rattle.scenario_theory.specs.Refusal.{idriss};
-ghost use Rattle.idriss_theory.specs.Tables.{takesTable3, rowAt};
+ghost use Rattle.idriss_theory.specs.Tables.{takesTable3};
+ghost use Rattle.idriss_theory.specs.Rows.{rowAt, RowLimits};
 ghost use Rattle.idriss_theory.specs.Median.{F};
-ghost use Rattle.idriss_theory.specs.Sigma.{heldTo};
-ghost use Rattle.idriss_theory.specs.Promise.{MedianDomain, SigmaDomain};
-ghost use Rattle.idriss_theory.specs.Evaluation.{AlphaDomain, RowLimits, alphaSum, gainsOf, lossesOf, distanceTermOf};
+ghost use Rattle.idriss_theory.specs.Sigma.{clamp};
+ghost use Rattle.idriss_theory.specs.Promise.{MedianDomain, MedianEnds, SigmaDomain, SigmaEnds};
+ghost use Rattle.idriss_theory.specs.Evaluation.{AlphaDomain, alphaSum, gainsOf, lossesOf, distanceTermOf};
 ghost use Rattle.idriss_theory.specs.Evaluation.{siteTermOf, medianOf, periodTermOf, sigmaOf};
 use idriss_tables as table;
 use idriss_theory::Row;
@@ -69,31 +70,32 @@ fn distance_term(r: Row, m: u64, rupture_distance: u64) -> logarithm_theory::End
 }
 
 // −ξ ln V; a V above 1200 m/s counts as 1200.
-fn site_term(r: Row, velocity: u16) -> logarithm_theory::Ends
-    requires { ⌜ RowLimits r × (4_500 ≤ velocity) ⌝ }
-    ensures { λ e. ⌜ (e ≡ siteTermOf r velocity) × Sized e 4 31_500_000_001 ⌝ }
+fn site_term(r: Row, vs30: u16) -> logarithm_theory::Ends
+    requires { ⌜ RowLimits r × (4_500 ≤ vs30) ⌝ }
+    ensures { λ e. ⌜ (e ≡ siteTermOf r vs30) × Sized e 4 31_500_000_001 ⌝ }
 {
-    let v = outward::lesser(velocity as u64, 12_000);
+    let v = outward::min(vs30 as u64, 12_000);
     outward::multiple(20_000 * r.8 as u64, logarithm::ln(v, 10))
 }
 
-// The median by row k of Table 3 where `third`, else of Table 2. What is promised of it is MedianEnds of idriss_theory.
+// The median by row k of Table 3 where `table_3`, else of Table 2.
 pub fn median(
-    third: bool,
+    table_3: bool,
     k: usize,
     magnitude: u16,
     rupture_distance: u16,
-    velocity: u16,
+    vs30: u16,
     mechanism: u8,
 ) -> Ends
-    requires { ⌜ MedianDomain k magnitude «rupture_distance» velocity ⌝ }
-    ensures { λ r. ⌜ r ≡ medianOf (rowAt third k) magnitude «rupture_distance» velocity mechanism ⌝ }
+    requires { ⌜ MedianDomain k magnitude «rupture_distance» vs30 ⌝ }
+    ensures { λ r. ⌜ r ≡ medianOf (rowAt «table_3» k) magnitude «rupture_distance» vs30 mechanism ⌝ }
+    ensures { λ r. ⌜ MedianEnds (rowAt «table_3» k) magnitude «rupture_distance» vs30 mechanism r ⌝ }
 {
-    let r = table::row_at(third, k);
+    let r = table::row_at(table_3, k);
     let m = magnitude as u64;
     let d = rupture_distance as u64;
     let far = distance_term(r, m, d);
-    let site = site_term(r, velocity);
+    let site = site_term(r, vs30);
     let up = gains(r, m, mechanism);
     let down = losses(r, m, d);
     signed::between(
@@ -105,9 +107,9 @@ pub fn median(
 }
 
 // x held to the range from least to most.
-fn held_to(least: u16, most: u16, x: u16) -> u16
+fn clamp(least: u16, most: u16, x: u16) -> u16
     requires { ⌜ least ≤ most ⌝ }
-    ensures { λ r. ⌜ r ≡ heldTo least most x ⌝ }
+    ensures { λ r. ⌜ r ≡ clamp least most x ⌝ }
 {
     if x < least {
         return least;
@@ -118,7 +120,7 @@ fn held_to(least: u16, most: u16, x: u16) -> u16
     x
 }
 
-// The size of 0.035 ln T.
+// The absolute value of 0.035 ln T.
 fn period_term(t: u16) -> logarithm_theory::Ends
     requires { ⌜ among (idriss .periods) t ≡ true ⌝ }
     ensures { λ e. ⌜ (e ≡ periodTermOf t) × Sized e 2 735_000_001 ⌝ }
@@ -126,13 +128,14 @@ fn period_term(t: u16) -> logarithm_theory::Ends
     outward::multiple(700_000, table::period_logarithm(t))
 }
 
-// 1.18 + 0.035 ln T − 0.06 M, T the period. What is promised of it is SigmaEnds of idriss_theory.
+// 1.18 + 0.035 ln T − 0.06 M, T the period.
 pub fn sigma(period: u16, magnitude: u16) -> Ends
     requires { ⌜ SigmaDomain period ⌝ }
     ensures { λ r. ⌜ r ≡ sigmaOf period magnitude ⌝ }
+    ensures { λ r. ⌜ SigmaEnds period magnitude r ⌝ }
 {
-    let m = 600_000 * held_to(500, 750, magnitude) as u64;
-    let t = held_to(50, 3_000, period);
+    let m = 600_000 * clamp(500, 750, magnitude) as u64;
+    let t = clamp(50, 3_000, period);
     let term = period_term(t);
     if t < 1_000 {
         return signed::between(1_180_000_000, m + term.high, 1_180_000_000, m + term.low);

@@ -2,9 +2,9 @@
 use mathlib.Core.Path.{_∙_, ap}
 use native.Mathlib.Omega.{arith}
 use borrow.Author.Needs.{needs}
-use Rattle.boore_atkinson_theory.specs.Tables.{rowAt}
+use Rattle.boore_atkinson_theory.specs.Rows.{rowAt}
 use Rattle.boore_atkinson_theory.specs.Evaluation.{endsOf, plusOf}
-use Rattle.boore_atkinson_theory.proofs.Laws.{motion-wider, plus-sized}
+use Rattle.boore_atkinson_theory.proofs.Laws.{signed-wider, plus-sized, medianOf-promise}
 use Rattle.boore_atkinson_theory.proofs.Sums.{median-is}
 use Rattle.boore_atkinson.proofs.median.Statement.{statement}
 use Rattle.boore_atkinson.proofs.median.Tie as tie
@@ -13,21 +13,21 @@ nonlinear-part-requires : tie.Need-nonlinear-part-requires
 nonlinear-part-requires c κs =
     let l = c .before .before in
     let p = l .before .before .before .before .before .before .before .pre in
-    (l .before .site-at .ensures .1, p .slow, l .velocity-ln .ensures, c .below-for .ensures .1 .order)
+    (l .before .site-at .ensures .1, p .slow, l .vs30-ln .ensures, c .minus-p-for .ensures .1 .order)
 
 plus-requires : tie.Need-plus-requires
 plus-requires c κs =
     let n = c .before .before in (
-      motion-wider (n .before .before .before .rock .ensures .1) (omega arith) (omega arith),
-      motion-wider (n .linear .ensures .1) (omega arith) (omega arith),
+      signed-wider (n .before .before .before .rock .ensures .1) (omega arith) (omega arith),
+      signed-wider (n .linear .ensures .1) (omega arith) (omega arith),
     )
 
 plus-requires-2 : tie.Need-plus-requires-2
 plus-requires-2 c κs =
     let n = c .before .before .before in
     let first = plus-sized (n .before .before .before .rock .ensures .1) (n .linear .ensures .1) in (
-      rw (c .plus .ensures) (motion-wider first (omega arith) (omega arith)),
-      motion-wider
+      rw (c .plus .ensures) (signed-wider first (omega arith) (omega arith)),
+      signed-wider
           (c .before .nonlinear-part .ensures .1) (omega arith) (omega arith),
     )
 
@@ -36,7 +36,7 @@ ends-requires c κs =
     let n = c .before .before .before .before in
     let first = plus-sized (n .before .before .before .rock .ensures .1) (n .linear .ensures .1) in
     rw (c .plus2 .ensures, c .before .plus .ensures)
-    (motion-wider (plus-sized first (c .before .before .nonlinear-part .ensures .1)) (omega arith) (omega arith))
+    (signed-wider (plus-sized first (c .before .before .nonlinear-part .ensures .1)) (omega arith) (omega arith))
 
 returns : tie.Need-returns
 returns c =
@@ -48,11 +48,13 @@ returns c =
     let a = d .before .args in
     let n = c .before .before .before .nonlinear-part in
     let sum = c .before .plus2 .ensures ∙ ap (λ x. plusOf x (n .result)) (c .before .before .plus .ensures) in
+    let same =
     c .ends .ensures ∙ ap endsOf sum ∙
-    median-is (rowAt (a .k)) (a .magnitude) (a .projection-distance) (a .velocity) (a .mechanism)
+    median-is (rowAt (a .k)) (a .magnitude) (a .projection-distance) (a .vs30) (a .mechanism)
     (d .distance-at .ensures .0) (r .before .magnitude-at .ensures .0) (s .site-at .ensures .0)
     (e .effective-distance .ensures .0) (r .rock .ensures .0) (b .before .linear .ensures .0)
-    (b .below-for .ensures .0) (n .ensures .0)
+    (b .minus-p-for .ensures .0) (n .ensures .0) in
+    (same, rw same (medianOf-promise (a .mechanism) (d .before .pre)))
 
 pub median-spec : {M : Type 1} → statement M
 median-spec =

@@ -12,12 +12,12 @@ known c = squares (c .pre .0) (c .pre .1) (c .pre .2)
 
 small-root : (c : tie.After-ln) → c .before .root .result < 2 ^ 32
 small-root c =
-    rw (c .before .root .ensures) (rootOf-small (effective-domain (known (c .before .before)) .small))
+    rw (c .before .root .ensures .0) (rootOf-small (effective-domain (known (c .before .before)) .small))
 
 returns : tie.Need-returns
 returns c =
     let a = c .before .before .args in
-    let e = effective-is (a .projection-distance) (a .h) (c .before .root .ensures) (c .ln .ensures) in
+    let e = effective-is (a .projection-distance) (a .h) (c .before .root .ensures .0) (c .ln .ensures .0) in
     (e, rw e (effective-sized (known (c .before .before))))
 
 pub effective-distance-spec : {M : Type 1} → statement M

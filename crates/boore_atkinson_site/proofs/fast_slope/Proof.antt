@@ -5,21 +5,21 @@ use native.Mathlib.Omega.{arith}
 use borrow.Author.Needs.{needs}
 use Rattle.outward_theory.proofs.Laws.{multiple-takes, product-takes}
 use Rattle.boore_atkinson_theory.proofs.SiteSizes.{over-fast-sized, fast-ln, fast-ratio, fast-sized}
-use Rattle.boore_atkinson_theory.proofs.Sums.{velocity-slow, fast-is}
+use Rattle.boore_atkinson_theory.proofs.Sums.{vs30-slow, fast-is}
 use Rattle.boore_atkinson_site.proofs.fast_slope.Statement.{statement}
 use Rattle.boore_atkinson_site.proofs.fast_slope.Tie as tie
 
 product-requires : tie.Need-product-requires
 product-requires c κs =
     let p = c .pre in
-    rw (p .3 ∙ velocity-slow (c .args .v) (p .2))
+    rw (p .3 ∙ vs30-slow (c .args .v) (p .2))
     (product-takes (fast-ln (p .0) (omega arith) (p .1) (le-of-lt (p .2))) over-fast-sized (omega arith))
 
 multiple-requires : tie.Need-multiple-requires
 multiple-requires c κs =
     let k = c .before .before in
     let p = k .pre in
-    rw (c .before .product .ensures, p .3 ∙ velocity-slow (k .args .v) (p .2))
+    rw (c .before .product .ensures, p .3 ∙ vs30-slow (k .args .v) (p .2))
     (multiple-takes _ (fast-ratio (p .0) (omega arith) (p .1) (le-of-lt (p .2))) (omega arith))
 
 returns : tie.Need-returns
@@ -28,7 +28,7 @@ returns c =
     let a = k .args in
     let p = k .pre in
     let e =
-    fast-is (a .s) (a .v) (p .3 ∙ velocity-slow (a .v) (p .2)) (c .before .before .product .ensures)
+    fast-is (a .s) (a .v) (p .3 ∙ vs30-slow (a .v) (p .2)) (c .before .before .product .ensures)
     (c .multiple .ensures) in
     (e, rw e (fast-sized (p .0) (omega arith) (p .1) (le-of-lt (p .2))))
 

@@ -4,15 +4,15 @@ use native.Mathlib.Omega.{arith}
 use borrow.Author.Needs.{needs}
 use Rattle.outward_theory.specs.Evaluation.{multipleOf}
 use Rattle.outward_theory.proofs.Laws.{multiple-takes}
-use Rattle.boore_atkinson_theory.proofs.SiteSizes.{velocity-sized, linear-sized}
-use Rattle.boore_atkinson_theory.proofs.Sums.{velocity-slow, velocity-fast, linear-slow, linear-fast}
+use Rattle.boore_atkinson_theory.proofs.SiteSizes.{vs30-sized, linear-sized}
+use Rattle.boore_atkinson_theory.proofs.Sums.{vs30-slow, vs30-fast, linear-slow, linear-fast}
 use Rattle.boore_atkinson_site.proofs.linear.Statement.{statement}
 use Rattle.boore_atkinson_site.proofs.linear.Tie as tie
 
 multiple-requires : tie.Need-multiple-requires
 multiple-requires c κs =
     let p = c .before .pre in
-    rw (p .3) (multiple-takes _ (velocity-sized (p .1) (p .2)) (omega arith))
+    rw (p .3) (multiple-takes _ (vs30-sized (p .1) (p .2)) (omega arith))
 
 returns : tie.Need-returns
 returns c =
@@ -20,7 +20,7 @@ returns c =
     let a = t .before .before .args in
     let p = t .before .before .pre in
     let h = c .before .if1 .taken in
-    let term = t .multiple .ensures ∙ ap (multipleOf _) (p .3 ∙ velocity-slow (a .v) h) in
+    let term = t .multiple .ensures ∙ ap (multipleOf _) (p .3 ∙ vs30-slow (a .v) h) in
     let e = linear-slow (a .s) (a .v) (c .exact .ensures) h term in
     (e, rw e (linear-sized (p .0) (p .1) (p .2)))
 
@@ -30,7 +30,7 @@ returns-2 c =
     let a = t .before .before .args in
     let p = t .before .before .pre in
     let h = c .before .if1 .left in
-    let term = t .multiple .ensures ∙ ap (multipleOf _) (p .3 ∙ velocity-fast (a .v) h) in
+    let term = t .multiple .ensures ∙ ap (multipleOf _) (p .3 ∙ vs30-fast (a .v) h) in
     let e = linear-fast (a .s) (a .v) (c .exact2 .ensures) h term in
     (e, rw e (linear-sized (p .0) (p .1) (p .2)))
 

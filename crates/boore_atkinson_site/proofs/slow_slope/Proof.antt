@@ -11,12 +11,12 @@ use Rattle.boore_atkinson_site.proofs.slow_slope.Tie as tie
 product-requires : tie.Need-product-requires
 product-requires c κs =
     let p = c .before .pre in
-    rw (c .ln .ensures) (product-takes (slow-ln (p .0) (p .1) (p .2)) over-slow-sized (omega arith))
+    rw (c .ln .ensures .0) (product-takes (slow-ln (p .0) (p .1) (p .2)) over-slow-sized (omega arith))
 
 multiple-requires : tie.Need-multiple-requires
 multiple-requires c κs =
     let p = c .before .before .before .before .pre in
-    rw (c .before .before .product .ensures, c .before .before .before .ln .ensures)
+    rw (c .before .before .product .ensures, c .before .before .before .ln .ensures .0)
     (multiple-takes _ (slow-ratio (p .0) (p .1) (p .2)) (omega arith))
 
 sum-requires : tie.Need-sum-requires
@@ -28,7 +28,7 @@ sum-requires c κs =
     rw (
       c .before .multiple .ensures,
       at-product .product .ensures,
-      at-ln .ln .ensures,
+      at-ln .ln .ensures .0,
       c .exact .ensures,
     )
     (sum-takes (slow-term (p .0) (p .1) (p .2)) (level-sized (p .0) (p .1)) (omega arith))
@@ -42,7 +42,7 @@ returns c =
     let a = start .args in
     let p = start .pre in
     let e =
-    slow-is (a .s) (a .v) (at-ln .ln .ensures)
+    slow-is (a .s) (a .v) (at-ln .ln .ensures .0)
     (at-product .product .ensures) (at-multiple .multiple .ensures)
     (c .before .exact .ensures) (c .sum .ensures) in
     (e, rw e (slow-sized (p .0) (p .1) (p .2)))

@@ -10,7 +10,7 @@ returns : tie.Need-returns
 unfolding straightOf
 returns c =
     let p = c .before .before .pre in
-    let e = c .before .lesser .ensures in
+    let e = c .before .min .ensures in
     (rw e refl, rw e (straight-sized (p .0) (p .1)))
 
 pub straight-spec : {M : Type 1} → statement M

@@ -8,7 +8,7 @@ use Rattle.boore_atkinson_site.proofs.transition_z.Tie as tie
 returns : tie.Need-returns
 returns c =
     let p = c .before .before .pre in
-    let e = z-is (c .before .before .args .b) (c .before .lesser .ensures) (c .greater .ensures) in
+    let e = z-is (c .before .before .args .b) (c .before .min .ensures) (c .max .ensures) in
     (e, rw e (z-sized (p .0) (p .1) (p .2)))
 
 pub transition-z-spec : {M : Type 1} → statement M

@@ -21,14 +21,14 @@ multiple-requires : tie.Need-multiple-requires
 unfolding betaOf
 multiple-requires c κs =
     let p = c .before .before .before .pre in
-    rw (c .ln-hundredths .ensures) (multiple-takes _ (ln-sized (far-domain (p .3)))
+    rw (c .ln-hundredths .ensures .0) (multiple-takes _ (ln-sized (far-domain (p .3)))
     (omega (arith, beta-bounds (p .0) (p .1) (p .2) .small)))
 
 returns : tie.Need-returns
 unfolding distanceTermOf betaOf
 returns c =
     let p = c .before .before .before .before .pre in
-    let e = c .multiple .ensures ∙ ap (multipleOf _) (c .before .ln-hundredths .ensures) in
+    let e = c .multiple .ensures ∙ ap (multipleOf _) (c .before .ln-hundredths .ensures .0) in
     (e, rw e (distance-sized (p .0) (p .1) (p .2) (p .3)))
 
 pub distance-term-spec : {M : Type 1} → statement M

@@ -1,14 +1,24 @@
 -- `sigma` meets its contract.
-use mathlib.Core.Path.{_∙_}
+use mathlib.Core.Path.{_≡_, _∙_}
 use borrow.Author.Needs.{needs}
-use Rattle.idriss_theory.proofs.Listed.{held-tabled}
+use Rattle.signed_theory.specs.declared.Ends.{Ends}
+use Rattle.idriss_theory.specs.Promise.{SigmaEnds}
+use Rattle.idriss_theory.specs.Evaluation.{sigmaOf}
+use Rattle.idriss_theory.proofs.Listed.{clamped-tabled}
 use Rattle.idriss_theory.proofs.Sums.{sigma-below, sigma-above}
+use Rattle.idriss_theory.proofs.SigmaLaws.{sigmaOf-promise}
 use Rattle.idriss.proofs.sigma.Statement.{statement}
 use Rattle.idriss.proofs.sigma.Tie as tie
 
 period-term-requires : tie.Need-period-term-requires
 period-term-requires c κs =
-    rw (c .held-to2 .ensures) (held-tabled (c .before .before .args .period) (c .before .before .pre .tabled))
+    rw (c .clamp2 .ensures) (clamped-tabled (c .before .before .args .period) (c .before .before .pre .tabled))
+
+-- both branches give what `sigmaOf` does, and keep its promise
+sigma-ends : (k : tie.Start) {r : Ends} →
+    let s = sigmaOf (k .args .period) (k .args .magnitude) in
+    r ≡ s → (r ≡ s) × SigmaEnds (k .args .period) (k .args .magnitude) r
+sigma-ends k e = (e, rw e (sigmaOf-promise _ _ (k .pre)))
 
 returns : tie.Need-returns
 returns c =
@@ -17,8 +27,8 @@ returns c =
     let t = term .before in
     let m = t .before in
     let a = m .before .args in
-    c .between .ensures ∙ sigma-below (a .period) (a .magnitude) (t .held-to2 .ensures) (m .held-to .ensures)
-    (term .period-term .ensures .0) (branch .if1 .taken)
+    sigma-ends (m .before) (c .between .ensures ∙ sigma-below (a .period) (a .magnitude) (t .clamp2 .ensures)
+    (m .clamp .ensures) (term .period-term .ensures .0) (branch .if1 .taken))
 
 returns-2 : tie.Need-returns-2
 returns-2 c =
@@ -27,8 +37,8 @@ returns-2 c =
     let t = term .before in
     let m = t .before in
     let a = m .before .args in
-    c .between2 .ensures ∙ sigma-above (a .period) (a .magnitude) (t .held-to2 .ensures) (m .held-to .ensures)
-    (term .period-term .ensures .0) (branch .if1 .left)
+    sigma-ends (m .before) (c .between2 .ensures ∙ sigma-above (a .period) (a .magnitude) (t .clamp2 .ensures)
+    (m .clamp .ensures) (term .period-term .ensures .0) (branch .if1 .left))
 
 pub sigma-spec : {M : Type 1} → statement M
 sigma-spec =

@@ -14,7 +14,7 @@ use Rattle.idriss.proofs.site_term.Tie as tie
 multiple-requires : tie.Need-multiple-requires
 multiple-requires c κs =
     let p = c .before .before .before .pre in
-    rw (c .ln .ensures, c .before .before .lesser .ensures)
+    rw (c .ln .ensures .0, c .before .before .min .ensures)
     (multiple-takes _ (ln-sized (site-domain (p .1))) (omega arith))
 
 returns : tie.Need-returns
@@ -22,8 +22,8 @@ unfolding siteTermOf
 returns c =
     let a = c .before .before .before .before .args in
     let p = c .before .before .before .before .pre in
-    let e = c .multiple .ensures ∙ ap (multipleOf _) (c .before .ln .ensures) in
-    let f = e ∙ ap (λ v. multipleOf (20_000 * a .r .8) (lnOf v 10)) (c .before .before .before .lesser .ensures) in
+    let e = c .multiple .ensures ∙ ap (multipleOf _) (c .before .ln .ensures .0) in
+    let f = e ∙ ap (λ v. multipleOf (20_000 * a .r .8) (lnOf v 10)) (c .before .before .before .min .ensures) in
     (f, rw f (site-sized (p .0) (p .1)))
 
 pub site-term-spec : {M : Type 1} → statement M

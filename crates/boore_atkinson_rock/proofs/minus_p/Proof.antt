@@ -1,11 +1,11 @@
--- `below` meets its contract.
+-- `minus_p` meets its contract.
 use Prim.Native.Nat.{_≤_}
 use native.Mathlib.Omega.{arith}
 use borrow.Author.Needs.{needs}
-use Rattle.boore_atkinson_theory.proofs.RockSizes.{pga-order, below-sized}
-use Rattle.boore_atkinson_theory.proofs.Sums.{below-is}
-use Rattle.boore_atkinson_rock.proofs.below.Statement.{statement}
-use Rattle.boore_atkinson_rock.proofs.below.Tie as tie
+use Rattle.boore_atkinson_theory.proofs.RockSizes.{pga-order, minus-p-sized}
+use Rattle.boore_atkinson_theory.proofs.Sums.{minus-p-is}
+use Rattle.boore_atkinson_rock.proofs.minus_p.Statement.{statement}
+use Rattle.boore_atkinson_rock.proofs.minus_p.Tie as tie
 
 sub-t7 : tie.Need-sub-t7
 sub-t7 c =
@@ -39,15 +39,15 @@ returns c =
     let a = start .args in
     let p = start .pre in
     let e =
-    below-is (a .m) (a .projection-distance) (a .mechanism)
+    minus-p-is (a .m) (a .projection-distance) (a .mechanism)
     (at-pga-distance .pga-distance .ensures .0)
     (at-pga-magnitude .pga-magnitude .ensures .0)
     (at-effective-distance .effective-distance .ensures .0)
     (at-rock .rock .ensures .0) in
-    (e, rw e (below-sized (a .mechanism) (p .1) (p .2)))
+    (e, rw e (minus-p-sized (a .mechanism) (p .1) (p .2)))
 
-pub below-spec : {M : Type 1} → statement M
-below-spec =
+pub minus-p-spec : {M : Type 1} → statement M
+minus-p-spec =
     tie.close
     (tie.spec
     (λ c κs. search needs) (λ c. search needs) (λ c κs. search needs) (λ c κs. search needs) (λ c κs. search needs)

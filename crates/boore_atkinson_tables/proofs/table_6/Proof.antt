@@ -1,0 +1,13 @@
+-- `table_6` meets its contract: the rows are the paper's, by unsigned parts.
+use mathlib.Core.Path.{refl}
+use Rattle.toolbox_theory.specs.Whole.{up, down}
+use Rattle.exact_theory.specs.Fraction.{_over_}
+use Rattle.boore_atkinson_tables.proofs.table_6.Statement.{statement}
+use Rattle.boore_atkinson_tables.proofs.table_6.Tie as tie
+
+returns : tie.Need-returns
+unfolding up down _over_
+returns c = refl
+
+pub table-6-spec : {M : Type 1} → statement M
+table-6-spec = tie.close (tie.spec returns)
