@@ -3,8 +3,9 @@
 
 Run as: python3 tests/test_coefficients.py [CRATES]
 
-The tables of crates/idriss_theory/specs/Tables.antt and of crates/boore_atkinson_theory/specs/Tables.antt are read as text and
-compared, number by number and in order, with tests/coefficients.txt, which has the numbers as printed.
+The tables of crates/idriss_theory/specs/Tables.antt and of crates/boore_atkinson_theory/specs/Tables.antt are read
+as text and compared, number by number and in order, with tests/coefficients.txt, which has the numbers as printed;
+so is what each table's constructor divides a column's digits by.
 CRATES is the directory of the crates, ../crates unless given.
 """
 
@@ -35,6 +36,17 @@ COLUMNS = {
     'boore-atkinson-7': tuple((f'e{i}', 5) for i in range(1, 8)) + (('Mh', 2),),
     'boore-atkinson-8': (('σTU', 3), ('σTM', 3)),
 }
+# Columns whose numbers stay whole in the definitions: h, in hundredths of a km.
+WHOLE = {'boore-atkinson-6': {'h'}}
+# The constructor that makes a row of the digits.
+CONSTRUCTORS = {
+    'idriss-2': 'row',
+    'idriss-3': 'row',
+    'boore-atkinson-3': 'site',
+    'boore-atkinson-6': 'distance',
+    'boore-atkinson-7': 'magnitude',
+    'boore-atkinson-8': 'total',
+}
 # Where the definitions have each table.
 PLACES = {
     'idriss-2': (IDRISS, 'table2', IDRISS_PERIODS),
@@ -44,9 +56,11 @@ PLACES = {
     'boore-atkinson-7': (BOORE_ATKINSON, 'table7', BOORE_ATKINSON_PERIODS),
     'boore-atkinson-8': (BOORE_ATKINSON, 'table8', BOORE_ATKINSON_PERIODS),
 }
-# Table 4 stands as six definitions, in the order of its columns.
+# Table 4 stands as six definitions, in the order of its columns; accelerations in hundredths of g, velocities in
+# tenths of a m/s.
 CONSTANTS = 'boore-atkinson-4'
-CONSTANT_NAMES = ('a1', 'pgaLow', 'a2', 'v1', 'v2', 'vref')
+CONSTANT_NAMES = ('a1', 'pgaLow', 'a2', 'V1', 'V2', 'Vref')
+CONSTANT_UNITS = (1, 1, 1, 10, 10, 10)
 
 DIGITS = r'\d[\d_]*'
 SIGNED = rf'\((?:pos|neg) {DIGITS}\)|{DIGITS}'
@@ -113,7 +127,7 @@ def number(text):
     return -size if text.startswith('(neg') else size
 
 
-def table_rows(text, name):
+def table_rows(text, name, maker):
     """Return the rows of a table of the definitions as (period, numbers)."""
     # The list ends at a line [] that no indented line follows: nothing can be joined to it.
     found = re.findall(rf'^{name} =[ ]*\n(.*?)^[ ]+\[\][ ]*$(?!\s*\n[ ]+\S)', text, re.M | re.S)
@@ -124,8 +138,8 @@ def table_rows(text, name):
     for piece, match in zip(pieces, matches):
         if not match:
             raise Fault(f'{name} has a row of a kind that this test does not know: {piece}')
-    if rest or len({match.group(1) for match in matches}) > 1:
-        raise Fault(f'{name} has rows of two kinds, or a row without ∷')
+    if rest or {match.group(1) for match in matches} != {maker}:
+        raise Fault(f'{name} has a row that {maker} does not make, or a row without ∷')
     return [(number(match.group(2)), [number(signed) for signed in re.findall(SIGNED, match.group(3))])
             for match in matches]
 
@@ -139,6 +153,24 @@ def constants(text):
             raise Fault(f'{name} is missing, or not one number: {found}')
         values.append(number(found[0].strip()))
     return values
+
+
+def constructor_faults(text, name):
+    """Return the columns that a table's constructor does not divide by their printed decimals."""
+    maker = CONSTRUCTORS[name]
+    columns = [column for column, _ in COLUMNS[name]]
+    wanted_head = ' '.join([maker, 'period', *columns]) + ' ='
+    found = re.findall(rf'^{re.escape(wanted_head)}\s*record \{{(.*?)\}}', text, re.M | re.S)
+    if len(found) != 1 or len(re.findall(rf'^{maker} .*=', text, re.M)) != 1:
+        raise Fault(f'{maker} is missing, or does not take the columns in the order of the table')
+    fields = [field for field in (' '.join(part.split()) for part in found[0].split(';')) if field]
+    wanted = ['period = period']
+    for column, decimals in COLUMNS[name]:
+        whole = column in WHOLE.get(name, ())
+        wanted.append(f'{column} = {column}' if whole else f'{column} = {column} over {10 ** decimals}')
+    plain = [field.replace('_', '').replace('= pos ', '= ') for field in fields]
+    return [f'{name}: {maker} has {has}, and not {wants}' for has, wants in zip(plain, wanted) if has != wants] + (
+        [f'{name}: {maker} has {len(plain)} fields'] if len(plain) != len(wanted) else [])
 
 
 def row_faults(name, label, printed, stated):
@@ -172,11 +204,12 @@ def compare(name, cells, crates):
             if [label for label, _ in printed] != ['value']:
                 raise Fault('the data file has not one row of values')
             stated = constants(definitions(os.path.join(crates, BOORE_ATKINSON)))
-            faults = row_faults(name, 'value', printed[0][1], stated)
+            faults = row_faults(name, 'value', [n * unit for n, unit in zip(printed[0][1], CONSTANT_UNITS)], stated)
         else:
             path, definition, periods = PLACES[name]
-            stated = table_rows(definitions(os.path.join(crates, path)), definition)
-            faults = table_faults(name, printed, stated, periods)
+            text = definitions(os.path.join(crates, path))
+            faults = table_faults(name, printed, table_rows(text, definition, CONSTRUCTORS[name]), periods)
+            faults += constructor_faults(text, name)
     except Fault as fault:
         return [f'{name}: {fault}'], 0, 0
     return faults, len(printed), sum(len(numbers) for _, numbers in printed)

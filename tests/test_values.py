@@ -29,7 +29,8 @@ READS = re.compile('reads ' + NUMBERS + ' ' + NUMBERS)
 VALUE = r'\((pos|neg) ([\d_]+) over ([\d_]+)\)'
 LN_EVERY = re.compile(r'atEvery \(ln ([\d_]+) ([\d_]+)\) ' + VALUE)
 SLOPE = re.compile(r'atEvery \(bnl \(booreAtkinson.rowFor ([\d_]+) \.site\) ([\d_]+)\) ' + VALUE)
-PART = re.compile(r'fraction \((alphaPart|betaFactor) \(idriss.rowFor ([\d_]+) ([\d_]+)\) ([\d_]+)\) ' + VALUE)
+PART = re.compile(r'fraction \((alphaPart|betaFactor) \(idriss.rowFor ([\d_]+) ([\d_]+)\) '
+                  r'\(pos ([\d_]+) over 100\)\) ' + VALUE)
 
 CUT = r'cutAt ([\d_]+) \((.*)\) \((pos|neg) ([\d_]+)\) \((pos|neg) ([\d_]+)\)'
 CUT_SCENARIO = re.compile(CUT.replace('(.*)', r'(median|sigma) \(scenarioOf ' + NUMBERS + r'\)'))
@@ -43,9 +44,12 @@ LEAST_PAIRS = 10
 # Document 01, 'Values to try', marked P: the subjects that have to be there.
 WANTED = ('pairAt 1 (ln 3 1)', 'pairAt 2 (ln 2 1)', 'atEvery (ln 7 7)',
           'pairAt 1 (root 18_225)',
-          'fraction (alphaPart (idriss.rowFor 700 10) 700)', 'fraction (betaFactor (idriss.rowFor 700 10) 700)',
-          'fraction (alphaPart (idriss.rowFor 675 10) 675)', 'fraction (betaFactor (idriss.rowFor 675 10) 675)',
-          'atEvery (bnl (booreAtkinson.rowFor 200 .site) 1_800)', 'atEvery (bnl (booreAtkinson.rowFor 200 .site) 3_000)',
+          'fraction (alphaPart (idriss.rowFor 700 10) (pos 700 over 100))',
+          'fraction (betaFactor (idriss.rowFor 700 10) (pos 700 over 100))',
+          'fraction (alphaPart (idriss.rowFor 675 10) (pos 675 over 100))',
+          'fraction (betaFactor (idriss.rowFor 675 10) (pos 675 over 100))',
+          'atEvery (bnl (booreAtkinson.rowFor 200 .site) 1_800)',
+          'atEvery (bnl (booreAtkinson.rowFor 200 .site) 3_000)',
           'atEvery (bnl (booreAtkinson.rowFor 200 .site) 7_600)',
           'reads (0x37 ∷ 0x01 ∷ 0xBC ∷ 0x02 ∷ 0xE8 ∷ 0x03 ∷ 0x02 ∷ 0x4B ∷ 0x00 ∷ [])')
 

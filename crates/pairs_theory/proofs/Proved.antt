@@ -3,36 +3,37 @@ use Prim.Native.Nat.{zero, suc}
 use native.Mathlib.Nat.{le-of-suc-le-suc}
 use lib.ListN.{getD, drop}
 use lib.Dec.{T}
+use Rattle.toolbox_theory.specs.Whole.{up}
 use Rattle.toolbox_theory.proofs.Tests.{every, every-at}
 use Rattle.exact_theory.specs.Fraction.{_over_, leQ, zeroQ, negQ, _+q_, _*q_, _/q_, flip, recipQ, minQ, maxQ, _-q_}
 use Rattle.exact_theory.specs.Pair.{exactly, _+p_, _*p_, _/p_, span4, hull, reachesUpTo, reachesAbove, branch, _-p_}
 use Rattle.exact_theory.specs.Logarithm.{harmonic, lowerSum, upperSum, lnPair}
-use Rattle.exact_theory.specs.Formula.{eval}
-use Rattle.scenario_theory.specs.Refusal.{idrissRow, booreAtkinsonRow}
-use Rattle.idriss_theory.specs.Tables.{takesTable3, rowAt, rowFor}
+use Rattle.exact_theory.specs.Formula.{lnQ, eval}
+use Rattle.exact_theory.proofs.DefinedTest.{sound}
+use Rattle.idriss_theory.specs.Tables.{takesTable3, rowFor}
 use Rattle.idriss_theory.specs.Median.{alphaPart, betaFactor, F, median as idrissMedian}
 use Rattle.idriss_theory.specs.Sigma.{sigma as idrissSigma}
-use Rattle.boore_atkinson_theory.specs.Tables.{rowAt as secondRowAt, rowFor as secondRowFor}
+use Rattle.boore_atkinson_theory.specs.Tables.{rowFor as secondRowFor}
 use Rattle.boore_atkinson_theory.specs.SiteTerm.{bnl}
 use Rattle.boore_atkinson_theory.specs.SiteTerm as site
 use Rattle.engine_theory.specs.Models.{median, sigma}
 use Rattle.values_theory.specs.Table.{fraction, AllHold}
-use Rattle.values_theory.proofs.Proved.{sound, cutTo, passes, holds}
+use Rattle.values_theory.proofs.Proved.{cutTo, passes, holds}
 use Rattle.pairs_theory.specs.Pairs.{pairs}
 
 -- in two parts, as one declaration may take so many steps and not more
 first-passes : T (passes (getD pairs 0 (fraction zeroQ zeroQ)))
-unfolding passes cutTo sound median sigma idrissMedian idrissSigma rowFor secondRowFor rowAt takesTable3 idrissRow
-    booreAtkinsonRow secondRowAt bnl site.nonlinearPart site.lowPart site.transition site.highPart site.c site.d
-    site.x site.y alphaPart betaFactor F eval lnPair lowerSum upperSum harmonic exactly _+p_ _-p_ _*p_ _/p_ span4
-    hull reachesUpTo reachesAbove branch minQ maxQ leQ zeroQ negQ _+q_ _-q_ _*q_ _/q_ flip recipQ _over_
+unfolding passes cutTo sound median sigma idrissMedian idrissSigma rowFor secondRowFor takesTable3 bnl
+    site.nonlinearPart site.lowPart site.transition site.highPart site.c site.d site.Δx site.Δy alphaPart betaFactor
+    F eval lnQ up lnPair lowerSum upperSum harmonic exactly _+p_ _-p_ _*p_ _/p_ span4 hull reachesUpTo reachesAbove
+    branch minQ maxQ leQ zeroQ negQ _+q_ _-q_ _*q_ _/q_ flip recipQ _over_
 first-passes = tt
 
 later-pass : T (every (λ k c. passes c) 1 (drop 1 pairs))
-unfolding passes cutTo sound median sigma idrissMedian idrissSigma rowFor secondRowFor rowAt takesTable3 idrissRow
-    booreAtkinsonRow secondRowAt bnl site.nonlinearPart site.lowPart site.transition site.highPart site.c site.d
-    site.x site.y alphaPart betaFactor F eval lnPair lowerSum upperSum harmonic exactly _+p_ _-p_ _*p_ _/p_ span4
-    hull reachesUpTo reachesAbove branch minQ maxQ leQ zeroQ negQ _+q_ _-q_ _*q_ _/q_ flip recipQ _over_
+unfolding passes cutTo sound median sigma idrissMedian idrissSigma rowFor secondRowFor takesTable3 bnl
+    site.nonlinearPart site.lowPart site.transition site.highPart site.c site.d site.Δx site.Δy alphaPart betaFactor
+    F eval lnQ up lnPair lowerSum upperSum harmonic exactly _+p_ _-p_ _*p_ _/p_ span4 hull reachesUpTo reachesAbove
+    branch minQ maxQ leQ zeroQ negQ _+q_ _-q_ _*q_ _/q_ flip recipQ _over_
 later-pass = tt
 
 pub pairs-hold : AllHold pairs

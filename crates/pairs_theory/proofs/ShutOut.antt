@@ -1,24 +1,35 @@
 -- No answer keeps the promise for both of two scenarios whose medians are far apart.
 use mathlib.Core.Path.{_≡_, refl}
+use mathlib.Core.Bool.{Bool, _&&_}
 use mathlib.Core.List.{List, [], _∷_}
-use Prim.Native.Nat.{ℕ, _+_, _≤_}
+use Prim.Native.Nat.{ℕ, _+_, _≤_, _<_}
 use native.Mathlib.Nat.{le-refl}
 use native.Mathlib.Omega.{arith}
 use lib.Dec.{T}
 use lib.IntN.{ℤ, pos, negℤ, _+ℤ_}
 use Rattle.toolbox_theory.specs.Whole.{up, down}
 use Rattle.toolbox_theory.proofs.Whole.{le-out, add-is}
-use Rattle.exact_theory.specs.Fraction.{leQ, _≤q_, zeroQ, negQ, _+q_, _*q_, minQ, maxQ, _-q_, _over_}
-use Rattle.exact_theory.specs.Pair.{exactly, _+p_, _*p_, span4, _-p_}
+use Rattle.toolbox_theory.proofs.Tests.{both}
+use Rattle.exact_theory.specs.Fraction.{_over_, leQ, _≤q_, zeroQ, negQ, _+q_, _-q_, _*q_, _/q_, flip, recipQ, minQ}
+use Rattle.exact_theory.specs.Fraction.{maxQ}
+use Rattle.exact_theory.specs.Pair.{exactly, _+p_, _*p_, _/p_, span4, hull, _-p_}
 use Rattle.exact_theory.specs.Logarithm.{harmonic, lowerSum, upperSum, lnPair}
-use Rattle.exact_theory.specs.Formula.{Formula, eval, units, ends}
+use Rattle.exact_theory.specs.Formula.{Formula, lnQ, eval, units, ends}
 use Rattle.exact_theory.proofs.FractionLaws.{over-Is, le-as, ≤q-trans}
-use Rattle.scenario_theory.specs.Refusal.{refusalBy, refusalOf, idrissRow}
-use Rattle.idriss_theory.specs.Tables.{takesTable3, rowAt, rowFor}
+use Rattle.exact_theory.proofs.DefinedTest.{sound}
+use Rattle.exact_theory.proofs.Coarse.{gap, negated, coarse, coarse-holds}
+use Rattle.scenario_theory.specs.declared.Scenario.{Scenario}
+use Rattle.scenario_theory.specs.Refusal.{refusalBy, refusalOf}
+use Rattle.idriss_theory.specs.Tables.{takesTable3, rowFor}
 use Rattle.idriss_theory.specs.Median.{alphaPart, betaFactor, F, median as idrissMedian}
+use Rattle.boore_atkinson_theory.specs.Tables.{rowFor as secondRowFor}
+use Rattle.boore_atkinson_theory.specs.Rock as rock
+use Rattle.boore_atkinson_theory.specs.SiteTerm as site
+use Rattle.boore_atkinson_theory.specs.Median as booreAtkinson
 use Rattle.engine_theory.specs.Models.{median, medianWidth}
 use Rattle.engine_theory.specs.Promise.{EnclosedWithin}
-use Rattle.pairs_theory.specs.ShutOut.{strong, weak, NoFixedEnds}
+use Rattle.pairs_theory.specs.ShutOut.{NoSharedAnswer, idrissStrong, idrissWeak, booreAtkinsonStrong}
+use Rattle.pairs_theory.specs.ShutOut.{booreAtkinsonWeak, NoFixedEnds}
 
 -- the order of whole numbers of units is that of the numbers
 unit-order : (a b : ℤ) → units a ≤q units b → up a + down b ≤ up b + down a
@@ -38,28 +49,78 @@ apart f g v w {low} {high} a b least most p q =
     let below = unit-order low b (≤q-trans (y .left .from) (≤q-trans (y .right .to) most)) in
     omega (arith, above, below, le-out high (low +ℤ pos v) (p .narrow .le), add-is low (pos v))
 
-strong-least : T (leQ (units (pos 0)) (eval 1 (median strong) .low))
-unfolding units median idrissMedian rowFor rowAt takesTable3 idrissRow alphaPart betaFactor F eval lnPair lowerSum
-    upperSum harmonic exactly _+p_ _-p_ _*p_ span4 minQ maxQ leQ zeroQ negQ _+q_ _-q_ _*q_ _over_
-strong-least = tt
-
-weak-most : T (leQ (eval 1 (median weak) .high) (units (negℤ (pos 1_000_000_000))))
-unfolding units median idrissMedian rowFor rowAt takesTable3 idrissRow alphaPart betaFactor F eval lnPair lowerSum
-    upperSum harmonic exactly _+p_ _-p_ _*p_ span4 minQ maxQ leQ zeroQ negQ _+q_ _-q_ _*q_ _over_
-weak-most = tt
-
 -- the ends of the median are the first two values
 same-ends : {l h m n l' h' m' n' : ℤ} {values : List ℤ} → values ≡ l ∷ h ∷ m ∷ n ∷ [] →
     values ≡ l' ∷ h' ∷ m' ∷ n' ∷ [] → (l ≡ l') × (h ≡ h')
 same-ends e f = (cc, cc)
 
-pub no-fixed-ends : NoFixedEnds
-unfolding NoFixedEnds medianWidth up down refusalOf refusalBy
-no-fixed-ends a p q =
-    let s = p .enclosed refl in
-    let t = q .enclosed refl in
-    let e = same-ends (s .four) (t .four) in
+-- scenarios that are not refused, the median of one at least a units and that of the other at most b, share no answer
+no-shared-answer : (s t : Scenario) (a b : ℤ) → refusalOf s ≡ 0 → refusalOf t ≡ 0 →
+    units a ≤q eval 1 (median s) .low → eval 1 (median t) .high ≤q units b →
+    up b + down a + medianWidth s < up a + down b → NoSharedAnswer s t
+unfolding NoSharedAnswer
+no-shared-answer s t a b accepted accepted' least most far x p q =
+    let u = p .enclosed accepted in
+    let w = q .enclosed accepted' in
+    let same = same-ends (u .four) (w .four) in
     let d =
-    apart (median strong) (median weak) 100 100 (pos 0) (negℤ (pos 1_000_000_000)) (record { le = strong-least })
-    (record { le = weak-most }) (s .median-enclosed) (rw (e .0, e .1) (t .median-enclosed)) in
+    apart (median s) (median t) (medianWidth s) (medianWidth t) a b least most (u .median-enclosed)
+    (rw (same .0, same .1) (w .median-enclosed)) in
     omega (arith, d)
+
+abbrev neg : ℕ → ℤ
+neg n = negℤ (pos n)
+
+-- ---- Idriss: the pairs at fineness 1
+
+idriss-far : T
+    (leQ (units (pos 0)) (eval 1 (median idrissStrong) .low) &&
+    leQ (eval 1 (median idrissWeak) .high) (units (neg 1_000_000_000)))
+unfolding units median idrissMedian rowFor takesTable3 alphaPart betaFactor F eval lnQ up lnPair lowerSum
+    upperSum harmonic exactly _+p_ _-p_ _*p_ span4 minQ maxQ leQ zeroQ negQ _+q_ _-q_ _*q_ _over_
+idriss-far = tt
+
+idriss-apart : NoSharedAnswer idrissStrong idrissWeak
+unfolding medianWidth up down refusalOf refusalBy
+idriss-apart =
+    let t = both (leQ (units (pos 0)) (eval 1 (median idrissStrong) .low)) _ idriss-far in
+    no-shared-answer idrissStrong idrissWeak (pos 0) (neg 1_000_000_000) refl refl (record { le = t .0 })
+    (record { le = t .1 }) (omega arith)
+
+-- ---- Boore-Atkinson: coarse pairs, as the sums of ln R² have 8,000 terms and more at fineness 1
+
+-- the coarse pair of f is from a units on, and that of g is up to b
+unfoldable far : Formula → Formula → ℤ → ℤ → Bool
+far f g a b =
+    (sound coarse f && sound coarse g) && (leQ (units a) (coarse f .low) && leQ (coarse g .high) (units b))
+
+-- and so are the pairs
+far-shows : (f g : Formula) (a b : ℤ) → T (far f g a b) →
+    (units a ≤q eval 1 f .low) × (eval 1 g .high ≤q units b)
+unfolding far
+far-shows f g a b t =
+    let u = both (sound coarse f && sound coarse g) _ t in
+    let v = both (sound coarse f) _ (u .0) in
+    let w = both (leQ (units a) (coarse f .low)) _ (u .1) in (
+      ≤q-trans (record { le = w .0 }) (coarse-holds (le-refl 1) f (v .0) .low .from),
+      ≤q-trans (coarse-holds (le-refl 1) g (v .1) .high .to) (record { le = w .1 }),
+    )
+
+booreAtkinson-far : T
+    (far (median booreAtkinsonStrong) (median booreAtkinsonWeak) (neg 4_000_000_000) (neg 9_000_000_000))
+unfolding far units median booreAtkinson.median booreAtkinson.p rock.onRock rock.distanceTerm rock.magnitudeTerm
+    rock.geometricSpreading rock.e rock.R rock.lnROverRref lnQ up site.linearPart site.bnl site.nonlinearPart
+    site.lowPart site.transition site.highPart site.c site.d site.Δx site.Δy secondRowFor sound coarse gap negated
+    exactly hull _+p_ _-p_ _*p_ _/p_ span4 minQ maxQ leQ zeroQ negQ _+q_ _-q_ _*q_ _/q_ flip recipQ _over_
+booreAtkinson-far = tt
+
+booreAtkinson-apart : NoSharedAnswer booreAtkinsonStrong booreAtkinsonWeak
+unfolding medianWidth up down refusalOf refusalBy
+booreAtkinson-apart =
+    let t = far-shows (median booreAtkinsonStrong) (median booreAtkinsonWeak) _ _ booreAtkinson-far in
+    no-shared-answer booreAtkinsonStrong booreAtkinsonWeak (neg 4_000_000_000) (neg 9_000_000_000) refl refl (t .0)
+    (t .1) (omega arith)
+
+pub no-fixed-ends : NoFixedEnds
+unfolding NoFixedEnds
+no-fixed-ends = (idriss-apart, booreAtkinson-apart)

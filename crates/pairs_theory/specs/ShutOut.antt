@@ -7,14 +7,24 @@ use Rattle.record_theory.specs.Layout.{scenarioOf}
 use Rattle.engine_theory.specs.declared.Answer.{Answer}
 use Rattle.engine_theory.specs.Promise.{AnswerPromise}
 
--- two Idriss scenarios at distance 0 on 450 m/s: M 7.90, reverse, 0.2 s, and M 4.50, strike-slip, 10 s
-abbrev pub strong : Scenario
-strong = scenarioOf (1 ∷ 790 ∷ 0 ∷ 4_500 ∷ 2 ∷ 200 ∷ [])
-
-abbrev pub weak : Scenario
-weak = scenarioOf (1 ∷ 450 ∷ 0 ∷ 4_500 ∷ 0 ∷ 10_000 ∷ [])
-
 -- no answer keeps the promise for both
+unfoldable pub NoSharedAnswer : Scenario → Scenario → Type 0
+NoSharedAnswer s t = (a : Answer) → AnswerPromise (refusalOf s) s a → AnswerPromise (refusalOf t) t a → ⊥
+
+-- two Idriss scenarios at distance 0 on 450 m/s: M 7.90, reverse, 0.2 s, and M 4.50, strike-slip, 10 s
+abbrev pub idrissStrong : Scenario
+idrissStrong = scenarioOf (1 ∷ 790 ∷ 0 ∷ 4_500 ∷ 2 ∷ 200 ∷ [])
+
+abbrev pub idrissWeak : Scenario
+idrissWeak = scenarioOf (1 ∷ 450 ∷ 0 ∷ 4_500 ∷ 0 ∷ 10_000 ∷ [])
+
+-- two Boore-Atkinson scenarios at distance 0 on 760 m/s: M 6.75, reverse, 0.2 s, and M 5.00, strike-slip, 10 s
+abbrev pub booreAtkinsonStrong : Scenario
+booreAtkinsonStrong = scenarioOf (2 ∷ 675 ∷ 0 ∷ 7_600 ∷ 2 ∷ 200 ∷ [])
+
+abbrev pub booreAtkinsonWeak : Scenario
+booreAtkinsonWeak = scenarioOf (2 ∷ 500 ∷ 0 ∷ 7_600 ∷ 0 ∷ 10_000 ∷ [])
+
+-- not even two scenarios of one model share an answer
 unfoldable pub NoFixedEnds : Type 0
-NoFixedEnds =
-    (a : Answer) → AnswerPromise (refusalOf strong) strong a → AnswerPromise (refusalOf weak) weak a → ⊥
+NoFixedEnds = NoSharedAnswer idrissStrong idrissWeak × NoSharedAnswer booreAtkinsonStrong booreAtkinsonWeak

@@ -11,15 +11,16 @@ use Rattle.toolbox_theory.proofs.Tests.{both, every, every-at}
 use Rattle.exact_theory.specs.Fraction.{Fraction, _over_, leQ, zeroQ, negQ, _+q_, _*q_, _-q_}
 use Rattle.exact_theory.specs.Logarithm.{harmonic, lowerSum, upperSum, lnPair}
 use Rattle.exact_theory.specs.Root.{greatest, wholeRoot, rootValues, rootPair}
-use Rattle.exact_theory.specs.Formula.{Formula, stated, ln, root, _⊕_, _⊖_, _⊗_, _⊘_, ifUpTo, eval, Defined}
+use Rattle.exact_theory.specs.Formula.{Formula, eval, Defined}
 use Rattle.exact_theory.proofs.AlgebraLaws.{≈q-trans}
-use Rattle.scenario_theory.specs.Refusal.{refusalBy, refusalOf, idrissRow, booreAtkinsonRow}
+use Rattle.exact_theory.proofs.DefinedTest.{sound, defined}
+use Rattle.scenario_theory.specs.Refusal.{refusalBy, refusalOf}
 use Rattle.record_theory.specs.Layout.{sizeOf, numbersOf, absentWritten}
 use Rattle.record_theory.specs.Outcome.{readingNumber, readingValues, scenarioIn, lengthBy, mapRefusal, readRefusal}
 use Rattle.record_theory.specs.Outcome.{readOf}
-use Rattle.idriss_theory.specs.Tables.{takesTable3, rowAt, rowFor}
+use Rattle.idriss_theory.specs.Tables.{takesTable3, rowFor}
 use Rattle.idriss_theory.specs.Median.{alphaPart, betaFactor}
-use Rattle.boore_atkinson_theory.specs.Tables.{rowAt as secondRowAt, rowFor as secondRowFor}
+use Rattle.boore_atkinson_theory.specs.Tables.{rowFor as secondRowFor}
 use Rattle.boore_atkinson_theory.specs.SiteTerm.{bnl}
 use Rattle.boore_atkinson_theory.specs.SiteTerm as site
 use Rattle.values_theory.specs.Table.{Check, pairAt, cutAt, atEvery, fraction, reads, HasEnds, CutTo, Holds}
@@ -34,17 +35,6 @@ sameList [] (y ∷ ys) = false
 sameList (x ∷ xs) [] = false
 sameList (x ∷ xs) (y ∷ ys) = eqb x y && sameList xs ys
 
--- defined at n, in both branches
-unfoldable pub sound : ℕ → Formula → Bool
-sound n (stated x) = true
-sound n (ln a b) = leb 1 a && leb 1 b
-sound n (root X) = true
-sound n (e ⊕ f) = sound n e && sound n f
-sound n (e ⊖ f) = sound n e && sound n f
-sound n (e ⊗ f) = sound n e && sound n f
-sound n (e ⊘ f) = sound n e && (sound n f && not (leQ (eval n f .low) zeroQ))
-sound n (ifUpTo e f A B) = (sound n e && sound n f) && (sound n A && sound n B)
-
 -- a number is found, and it is x
 unfoldable pub matches : Option Fraction → Fraction → Bool
 matches none x = false
@@ -55,8 +45,8 @@ unfoldable pub cutTo : Fraction → ℤ → Bool
 cutTo x z = leQ (z over (10 ^ 60)) x && not (leQ ((z +ℤ pos 1) over (10 ^ 60)) x)
 
 unfoldable pub passes : Check → Bool
-passes (pairAt n e x y) = (leb 1 n && sound n e) && (same (eval n e .low) x && same (eval n e .high) y)
-passes (cutAt n e x y) = (leb 1 n && sound n e) && (cutTo (eval n e .low) x && cutTo (eval n e .high) y)
+passes (pairAt n e x y) = (leb 1 n && sound (eval n) e) && (same (eval n e .low) x && same (eval n e .high) y)
+passes (cutAt n e x y) = (leb 1 n && sound (eval n) e) && (cutTo (eval n e .low) x && cutTo (eval n e .high) y)
 passes (atEvery e x) = matches (constant e) x
 passes (fraction x y) = same x y
 passes (reads s xs) = eqb (readingNumber (readOf s)) 0 && sameList (readingValues (readOf s)) xs
@@ -71,24 +61,6 @@ same-list (x ∷ xs) [] t = absurd t
 same-list (x ∷ xs) (y ∷ ys) t =
     let u = both (eqb x y) (sameList xs ys) t in
     rw (eqb→eq x y (u .0), same-list xs ys (u .1))
-
-defined : (n : ℕ) (e : Formula) → T (sound n e) → Defined n e
-unfolding sound Defined
-defined n (stated x) t = tt
-defined n (ln a b) t = let u = both (leb 1 a) (leb 1 b) t in (leb→le 1 a (u .0), leb→le 1 b (u .1))
-defined n (root X) t = tt
-defined n (e ⊕ f) t = let u = both (sound n e) (sound n f) t in (defined n e (u .0), defined n f (u .1))
-defined n (e ⊖ f) t = let u = both (sound n e) (sound n f) t in (defined n e (u .0), defined n f (u .1))
-defined n (e ⊗ f) t = let u = both (sound n e) (sound n f) t in (defined n e (u .0), defined n f (u .1))
-defined n (e ⊘ f) t =
-    let u = both (sound n e) (sound n f && not (leQ (eval n f .low) zeroQ)) t in
-    let w = both (sound n f) (not (leQ (eval n f .low) zeroQ)) (u .1) in
-    (defined n e (u .0), defined n f (w .0), record { above = record { lt = w .1 } })
-defined n (ifUpTo e f A B) t =
-    let u = both (sound n e && sound n f) (sound n A && sound n B) t in
-    let v = both (sound n e) (sound n f) (u .0) in
-    let w = both (sound n A) (sound n B) (u .1) in
-    (defined n e (v .0), defined n f (v .1), λ r. defined n A (w .0), λ r. defined n B (w .1))
 
 has-ends : (n : ℕ) (e : Formula) (x y : Fraction) → T (same (eval n e .low) x && same (eval n e .high) y) →
     HasEnds (eval n e) x y
@@ -113,12 +85,12 @@ at-every e x (some y) f t n h =
 pub holds : (c : Check) → T (passes c) → Holds c
 unfolding passes Holds Defined
 holds (pairAt n e x y) t =
-    let u = both (leb 1 n && sound n e) (same (eval n e .low) x && same (eval n e .high) y) t in
-    let v = both (leb 1 n) (sound n e) (u .0) in
+    let u = both (leb 1 n && sound (eval n) e) (same (eval n e .low) x && same (eval n e .high) y) t in
+    let v = both (leb 1 n) (sound (eval n) e) (u .0) in
     (leb→le 1 n (v .0), defined n e (v .1), has-ends n e x y (u .1))
 holds (cutAt n e x y) t =
-    let u = both (leb 1 n && sound n e) (cutTo (eval n e .low) x && cutTo (eval n e .high) y) t in
-    let v = both (leb 1 n) (sound n e) (u .0) in
+    let u = both (leb 1 n && sound (eval n) e) (cutTo (eval n e .low) x && cutTo (eval n e .high) y) t in
+    let v = both (leb 1 n) (sound (eval n) e) (u .0) in
     let w = both (cutTo (eval n e .low) x) (cutTo (eval n e .high) y) (u .1) in
     (leb→le 1 n (v .0), defined n e (v .1), is-cut _ x (w .0), is-cut _ y (w .1))
 holds (atEvery e x) t = at-every e x (constant e) (found e) t
@@ -130,10 +102,10 @@ holds (reads s xs) t =
 -- ---- all of them
 
 all-pass : T (every (λ k c. passes c) 0 values)
-unfolding passes matches constant merged zeroOver positive rowFor secondRowFor rowAt takesTable3 idrissRow
-    booreAtkinsonRow secondRowAt bnl alphaPart betaFactor _-q_ _*q_ sound same sameList eval lnPair lowerSum upperSum
-    harmonic rootPair rootValues wholeRoot greatest leQ zeroQ negQ _+q_ _over_ readOf readRefusal mapRefusal
-    scenarioIn lengthBy numbersOf sizeOf absentWritten refusalOf refusalBy
+unfolding passes matches constant merged zeroOver positive rowFor secondRowFor takesTable3 bnl alphaPart betaFactor
+    _-q_ _*q_ sound same sameList eval lnPair lowerSum upperSum harmonic rootPair rootValues wholeRoot greatest leQ
+    zeroQ negQ _+q_ _over_ readOf readRefusal mapRefusal scenarioIn lengthBy numbersOf sizeOf absentWritten refusalOf
+    refusalBy
 all-pass = tt
 
 pub all-hold : AllHold values

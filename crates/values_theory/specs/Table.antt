@@ -57,10 +57,10 @@ values =
     -- "the root of 18225 at n = 1 has 135 and 136"
     pairAt 1 (root 18_225) (pos 135 over 1) (pos 136 over 1) ∷
     -- "Idriss 0.01 s, M 7.00: α part 8.590525, β factor 1.3926; M 6.75: 8.65823125 and 1.449775"
-    fraction (alphaPart (idriss.rowFor 700 10) 700) (pos 8_590_525 over 1_000_000) ∷
-    fraction (betaFactor (idriss.rowFor 700 10) 700) (pos 13_926 over 10_000) ∷
-    fraction (alphaPart (idriss.rowFor 675 10) 675) (pos 865_823_125 over 100_000_000) ∷
-    fraction (betaFactor (idriss.rowFor 675 10) 675) (pos 1_449_775 over 1_000_000) ∷
+    fraction (alphaPart (idriss.rowFor 700 10) (pos 700 over 100)) (pos 8_590_525 over 1_000_000) ∷
+    fraction (betaFactor (idriss.rowFor 700 10) (pos 700 over 100)) (pos 13_926 over 10_000) ∷
+    fraction (alphaPart (idriss.rowFor 675 10) (pos 675 over 100)) (pos 865_823_125 over 100_000_000) ∷
+    fraction (betaFactor (idriss.rowFor 675 10) (pos 675 over 100)) (pos 1_449_775 over 1_000_000) ∷
     -- "bnl at 0.2 s: −0.52 at 180 m/s, −0.19 at 300, 0 at 760"
     atEvery (bnl (booreAtkinson.rowFor 200 .site) 1_800) (neg 52 over 100) ∷
     atEvery (bnl (booreAtkinson.rowFor 200 .site) 3_000) (neg 19 over 100) ∷
