@@ -317,10 +317,11 @@ def run_program(tally, program, stream, source=None):
     """Run the program on a stream, from a file if one is given; return its output, or None after a fault."""
     tally.processes += 1
     try:
-        with subprocess.Popen([program], stdin=source or subprocess.PIPE, stdout=subprocess.PIPE, bufsize=0) as process:
+        with subprocess.Popen([program], stdin=source or subprocess.PIPE, stdout=subprocess.PIPE,
+                              stderr=subprocess.PIPE, bufsize=0) as process:
             try:
                 rest = None if source else given_in_pieces(process, stream)
-                output, _ = process.communicate(rest, timeout=SECONDS)
+                output, said = process.communicate(rest, timeout=SECONDS)
             except subprocess.TimeoutExpired:
                 process.kill()
                 return tally.fault(stream, f'the program has not ended after {SECONDS} seconds')
@@ -328,6 +329,8 @@ def run_program(tally, program, stream, source=None):
         return tally.fault(stream, f'the program could not be run: {error}')
     if process.returncode != 0:
         return tally.fault(stream, f'the program ended with status {process.returncode}')
+    if said:
+        return tally.fault(stream, f'standard error is not empty: {show(said)}')
     return output
 
 

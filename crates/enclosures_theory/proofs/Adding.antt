@@ -1,31 +1,45 @@
--- A line that is put into a part of the lent bytes, with the byte after it, is added there.
+-- A part that is put into lent bytes at a place is added there.
 use mathlib.Core.Path.{_≡_, refl, sym, ap, _∙_}
-use mathlib.Core.List.{List, [], _∷_, _++_, append-assoc}
-use Prim.Native.Nat.{ℕ, _+_, _-_, _≤_}
+use mathlib.Core.List.{List, [], _∷_, _++_, append-assoc, append-nil}
+use Prim.Native.Nat.{ℕ, _+_, _-_, _≤_, _<_}
+use native.Mathlib.Numerals.{add-one}
 use native.Mathlib.Omega.{arith}
 use borrow.Author.Tests.{le-ltb}
 use borrow.Rule.Slice.PartMut.{putMid, same-len-mid}
-use lib.ListN.{length, set, take, drop, length-append, length-set, length-drop}
-use lib.Seq.{length-take-le, take-all, set-at, take-at, append-snoc}
+use lib.ListN.{length, set, take, drop, getD, length-append, length-set, length-drop}
+use lib.Seq.{length-take-le, take-all, take-suc, take-at, take-suc-set}
 use Rattle.report_theory.specs.Lines.{lengthOn, bytesAfter}
-use Rattle.enclosures_theory.specs.Output.{ended}
 use Rattle.enclosures_theory.specs.Steps.{Added}
 
--- a byte that is set after a front of k
-after-front : (p line d rest : List ℕ) (b k : ℕ) → length p + length line ≡ k →
-    take (k + 1) (set (p ++ ((line ++ (b ∷ d)) ++ rest)) k 10) ≡ p ++ ended line
-after-front p line d rest b k e =
-    let front = p ++ line in
-    let long : length front ≡ k = length-append p line ∙ e in
-    let all : p ++ ((line ++ (b ∷ d)) ++ rest) ≡ front ++ (b ∷ (d ++ rest)) =
-    ap (λ (l : List ℕ). p ++ l) (append-assoc line (b ∷ d) rest) ∙ sym (append-assoc p line (b ∷ (d ++ rest))) in
-    let put : set (p ++ ((line ++ (b ∷ d)) ++ rest)) k 10 ≡ (front ++ (10 ∷ [])) ++ (d ++ rest) =
-    ap (λ (l : List ℕ). set l k 10) all
-    ∙ set-at front b (d ++ rest) 10 k long
-    ∙ sym (append-snoc front 10 (d ++ rest)) in
-    ap (λ (l : List ℕ). take (k + 1) l) put
-    ∙ take-at (front ++ (10 ∷ [])) (d ++ rest) (k + 1) (length-append front (10 ∷ []) ∙ ap (λ (n : ℕ). n + 1) long)
-    ∙ append-assoc p line (10 ∷ [])
+-- ---- one after another
+
+pub nothing : (at : ℕ) (l : List ℕ) → Added [] at l at l
+nothing at l = record { place = omega arith; bytes = sym (append-nil (take at l)); room = refl }
+
+pub then-byte : {part l l1 : List ℕ} {at next : ℕ} (x : ℕ) → Added part at l next l1 → next < length l1 →
+    Added (part ++ (x ∷ [])) at l (next + 1) (set l1 next x)
+then-byte {part} {l} {l1} {at} {next} x a h = record {
+  place = omega (arith, length-append part (x ∷ []));
+  bytes =
+      rw add-one (take-suc-set l1 next x h ∙ ap (λ (k : List ℕ). k ++ (x ∷ [])) (a .bytes)
+      ∙ append-assoc (take at l) part (x ∷ []));
+  room = length-set l1 next x ∙ a .room;
+}
+
+pub then-part : {u v l l1 l2 : List ℕ} {a b c : ℕ} → Added u a l b l1 → Added v b l1 c l2 → Added (u ++ v) a l c l2
+then-part {u} {v} {l} {a = a} p q = record {
+  place = omega (arith, length-append u v);
+  bytes = q .bytes ∙ ap (λ (k : List ℕ). k ++ v) (p .bytes) ∙ append-assoc (take a l) u v;
+  room = q .room ∙ p .room;
+}
+
+-- a byte more of a text
+pub then-next : {l l1 : List ℕ} {at : ℕ} (text : List ℕ) (i : ℕ) → i < length text →
+    Added (take i text) at l (at + i) l1 → at + i < length l1 →
+    Added (take (i + 1) text) at l (at + i + 1) (set l1 (at + i) (getD text i 0))
+then-next text i h a room = rw (add-one i, take-suc text i 0 h) (then-byte (getD text i 0) a room)
+
+-- ---- into a part of the lent bytes
 
 -- the part of the lent bytes from a place on
 abbrev pub part : List ℕ → ℕ → List ℕ
@@ -38,53 +52,55 @@ part-is before at = take-all (length before - at) (drop at before) (omega (arith
 pub part-length : (before : List ℕ) (at : ℕ) → length (part before at) ≡ length before - at
 part-length before at = ap length (part-is before at) ∙ length-drop at before
 
--- a line of n bytes has been put there: its end has a place within what is lent, whose length stays, and with the end
--- it is added
-pub record Placed (line before : List ℕ) (at n : ℕ) (put : List ℕ) : Type 0 where
-  pub place : at + n + 1 ≤ length before
-  pub back : length (putMid at (length before - at) before put) ≡ length before
-  pub added : Added (ended line) at before (at + n + 1) (set (putMid at (length before - at) before put) (at + n) 10)
+-- what is before the place after bytes that are put at it
+up-to : (p bytes d rest : List ℕ) (k : ℕ) → length (p ++ bytes) ≡ k →
+    take k (p ++ ((bytes ++ d) ++ rest)) ≡ p ++ bytes
+up-to p bytes d rest k e =
+    ap (λ (l : List ℕ). take k (p ++ l)) (append-assoc bytes d rest)
+    ∙ ap (take k) (sym (append-assoc p bytes (d ++ rest)))
+    ∙ take-at (p ++ bytes) (d ++ rest) k e
 
--- so it is where the part has room for it and a byte more
-module _ (line before : List ℕ) (at : ℕ) {n : ℕ} {put : List ℕ} (room : at + length line + 1 ≤ length before)
-    (count : n ≡ lengthOn line (part before at)) (is : put ≡ bytesAfter line (part before at)) where
-  fits : length line ≤ length (part before at)
+-- n bytes have been put there: the place after them is within what is lent, whose length stays, and they are added
+pub record Placed (bytes before : List ℕ) (at n : ℕ) (put : List ℕ) : Type 0 where
+  pub place : at + n ≤ length before
+  pub back : length (putMid at (length before - at) before put) ≡ length before
+  pub size : n ≡ length bytes
+  pub added : Added bytes at before (at + n) (putMid at (length before - at) before put)
+
+-- so it is where the part has room for them
+module _ (bytes before : List ℕ) (at : ℕ) {n : ℕ} {put : List ℕ} (room : at + length bytes ≤ length before)
+    (count : n ≡ lengthOn bytes (part before at)) (is : put ≡ bytesAfter bytes (part before at)) where
+  fits : length bytes ≤ length (part before at)
   fits = omega (arith, part-length before at)
 
-  long : n ≡ length line
+  long : n ≡ length bytes
   unfolding lengthOn
-  long = rw (le-ltb (length (part before at)) (length line) fits) at count
+  long = rw (le-ltb (length (part before at)) (length bytes) fits) at count
 
-  put-is : put ≡ line ++ drop (length line) (part before at)
+  put-is : put ≡ bytes ++ drop (length bytes) (part before at)
   unfolding bytesAfter
-  put-is = rw (le-ltb (length (part before at)) (length line) fits) at is
-
-  place : at + n + 1 ≤ length before
-  place = omega (arith, room, long)
+  put-is = rw (le-ltb (length (part before at)) (length bytes) fits) at is
 
   back : length (putMid at (length before - at) before put) ≡ length before
   back =
       same-len-mid at (length before - at) before put (ap length put-is ∙ omega (
         arith,
         fits,
-        length-append line (drop (length line) (part before at)),
-        length-drop (length line) (part before at),
+        length-append bytes (drop (length bytes) (part before at)),
+        length-drop (length bytes) (part before at),
       ))
 
-  pub placed : Placed line before at n put
-  placed = go (drop (length line) (part before at)) refl
-    where
-      go : (l : List ℕ) → drop (length line) (part before at) ≡ l → Placed line before at n put
-      go [] e =
-          absurd (omega (arith, part-length before at, length-drop (length line) (part before at), ap length e))
-      go (b ∷ d) e = record {
-        place = place;
+  pub placed : Placed bytes before at n put
+  placed =
+      let size : length (take at before ++ bytes) ≡ at + n =
+      omega (arith, length-append (take at before) bytes, length-take-le at before (omega (arith, room)), long) in
+      record {
+        place = omega (arith, room, long);
         back = back;
+        size = long;
         added = record {
-          place = omega (arith, long, length-append line (10 ∷ []));
-          bytes =
-              rw (put-is, e) (after-front (take at before) line d _ b (at + n)
-              (omega (arith, long, length-take-le at before (omega (arith, room)))));
-          room = length-set (putMid at (length before - at) before put) (at + n) 10 ∙ back;
+          place = omega (arith, long);
+          bytes = rw put-is (up-to (take at before) bytes _ _ (at + n) size);
+          room = back;
         };
       }

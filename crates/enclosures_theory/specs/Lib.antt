@@ -1,2 +1,4 @@
+pub mod Sizes
 pub mod Output
+pub mod Transfers
 pub mod Steps

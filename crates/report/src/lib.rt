@@ -1,4 +1,4 @@
-// The line of an answer, and the last line, as bytes.
+// The line of an answer, the last line and the digits of a number, as bytes.
 ghost use mathlib.Core.Path.{_≡_};
 ghost use Prim.Native.Nat.{_+_, _≤_};
 ghost use lib.ListN.{length};
@@ -29,7 +29,7 @@ fn split(z: i64) -> Word
 {
     Word {
         minus: z < 0,
-        size: signed::size(z),
+        abs: signed::unsigned_abs(z),
     }
 }
 
@@ -46,7 +46,7 @@ fn split_ends(e: Ends) -> Words
 fn word_length(w: Word) -> usize
     ensures { λ r. ⌜ Counted (wordBytes w) 22 r ⌝ }
 {
-    let n = decimal_length(w.size);
+    let n = decimal_length(w.abs);
     if w.minus {
         return n + 2;
     }
@@ -92,7 +92,7 @@ fn put_word(out: &mut [u8], at: usize, w: Word) -> usize
     ensures { λ r. ⌜ Put at (wordBytes w) (now (out .entry)) r (now (out .exit)) ⌝ }
 {
     let next = put_sign(out, at, w.minus);
-    put_decimal(out, next, w.size)
+    put_decimal(out, next, w.abs)
 }
 
 fn put_words(out: &mut [u8], at: usize, w: Words) -> usize
@@ -138,7 +138,7 @@ fn refused_line(position: u64, k: u8, out: &mut [u8]) -> usize
 {
     let number = Word {
         minus: false,
-        size: k as u64,
+        abs: k as u64,
     };
     let n = decimal_length(position) + 2 + word_length(number);
     if out.len() < n {
@@ -185,4 +185,18 @@ pub fn last_line(count: u64, out: &mut [u8]) -> usize
     put_word_end(out);
     put_decimal(out, 4, count);
     n
+}
+
+// Puts the digits of n at the front of out, and answers how many they are; where they do not fit, that is 0 and out is
+// not touched.
+pub fn number(n: u64, out: &mut [u8]) -> usize
+    ensures { λ r. ⌜ r ≡ lengthOn (decimal n) (now (out .entry)) ⌝ }
+    ensures { λ _. ⌜ now (out .exit) ≡ bytesAfter (decimal n) (now (out .entry)) ⌝ }
+{
+    let k = decimal_length(n);
+    if out.len() < k {
+        return 0;
+    }
+    put_decimal(out, 0, n);
+    k
 }

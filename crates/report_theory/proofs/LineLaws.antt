@@ -50,7 +50,7 @@ enclosed-parts position e =
     ap (λ (l : List ℕ). decimal position ++ (32 ∷ 69 ∷ l)) words ∙ together (decimal position) 69 a b c d
 
 pub refused-parts : (position k : ℕ) →
-    lineOf position (A.Refused k) ≡ headBytes position 82 ++ wordBytes (record { minus = false; size = k })
+    lineOf position (A.Refused k) ≡ headBytes position 82 ++ wordBytes (record { minus = false; abs = k })
 unfolding lineOf spaced
 refused-parts position k =
     rw (append-nil (decimal k)) (sym (append-assoc (decimal position) (32 ∷ 82 ∷ []) (32 ∷ decimal k)))
@@ -82,9 +82,9 @@ module _ {line parts : List ℕ} {n : ℕ} (lent : List ℕ) (l : ByParts line p
 word-most : (w : Word) → length (wordBytes w) ≤ 22
 word-most w = go (w .minus)
   where
-    go : (minus : Bool) → length (signBytes minus ++ decimal (w .size)) ≤ 22
-    go true = omega (arith, decimal-most (w .size))
-    go false = omega (arith, decimal-most (w .size))
+    go : (minus : Bool) → length (signBytes minus ++ decimal (w .abs)) ≤ 22
+    go true = omega (arith, decimal-most (w .abs))
+    go false = omega (arith, decimal-most (w .abs))
 
 -- no line is longer than this
 pub line-most : (position : ℕ) (a : Answer) → length (lineOf position a) ≤ 110

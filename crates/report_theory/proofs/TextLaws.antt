@@ -8,7 +8,7 @@ use native.Mathlib.Nat.{pow-succ', le-refl}
 use borrow.Author.Tests.{lt-ltb, le-ltb}
 use lib.Dec.{T, ltb, ltb→lt}
 use lib.ListN.{length, length-append}
-use Rattle.report_theory.specs.Text.{digitsBy, places, decimal, readDecimal}
+use Rattle.report_theory.specs.Text.{digitsBy, places, decimal}
 
 -- ---- how many
 
@@ -59,6 +59,11 @@ more-digits n least most =
     step (places - 2) n least (omega arith)
 
 -- ---- no digit is lost
+
+-- the number that digits make, after the value v of those before them
+unfoldable pub readDecimal : ℕ → List ℕ → ℕ
+readDecimal v [] = v
+readDecimal v (d ∷ ds) = readDecimal (10 * v + (d - 48)) ds
 
 read-last : (v : ℕ) (a : List ℕ) (d : ℕ) → readDecimal v (a ++ (d ∷ [])) ≡ 10 * readDecimal v a + (d - 48)
 unfolding readDecimal

@@ -8,7 +8,7 @@ use lib.ListN.{length, drop}
 use Rattle.engine_theory.specs.declared.Answer.{Answer}
 use Rattle.engine_theory.specs.declared.Answer.the-variants as A
 use Rattle.engine_theory.specs.Promise.{answerValues}
-use Rattle.report_theory.specs.Text.{decimal, signedDecimal, spaced}
+use Rattle.report_theory.specs.Text.{ascii, decimal, signedDecimal, spaced}
 
 -- "E and four ends in the order of the answer, or R and the number"; 69 is the byte of E, 82 that of R
 abbrev pub wordsOf : Answer → List (List ℕ)
@@ -21,7 +21,7 @@ lineOf position a = decimal position ++ spaced (wordsOf a)
 
 -- '"end" with the count of those record lines', without its line end
 abbrev pub endBytes : List ℕ
-endBytes = 101 ∷ 110 ∷ 100 ∷ 32 ∷ []
+endBytes = ascii "end "
 
 unfoldable pub lastLineOf : ℕ → List ℕ
 lastLineOf count = endBytes ++ decimal count

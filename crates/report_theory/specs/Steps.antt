@@ -16,9 +16,9 @@ pub record Counted (bytes : List ℕ) (most n : ℕ) : Type 0 where
   pub is : n ≡ length bytes
   pub few : n ≤ most
 
--- a number by its sign and its size
+-- a number by its sign and its absolute value
 abbrev pub wordOf : ℤ → Word
-wordOf z = record { minus = ltZ z (pos 0); size = natAbs z }
+wordOf z = record { minus = ltZ z (pos 0); abs = natAbs z }
 
 abbrev pub wordsFor : Ends → Words
 wordsFor e = record { low = wordOf (e .low); high = wordOf (e .high) }
@@ -29,7 +29,7 @@ signBytes minus = cond minus (32 ∷ 45 ∷ []) (32 ∷ [])
 
 -- and the number
 abbrev pub wordBytes : Word → List ℕ
-wordBytes w = signBytes (w .minus) ++ decimal (w .size)
+wordBytes w = signBytes (w .minus) ++ decimal (w .abs)
 
 abbrev pub bothBytes : Words → List ℕ
 bothBytes w = wordBytes (w .low) ++ wordBytes (w .high)

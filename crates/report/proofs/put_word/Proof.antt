@@ -10,14 +10,14 @@ sign-fits : tie.Need-put-sign-requires
 sign-fits c κs =
     let k = c .before .before in
     let w = k .args .w in
-    first-fits (k .args .at) (signBytes (w .minus)) (decimal (w .size)) (k .args .out .now) (k .pre)
+    first-fits (k .args .at) (signBytes (w .minus)) (decimal (w .abs)) (k .args .out .now) (k .pre)
 
 digits-fit : tie.Need-put-decimal-requires
 digits-fit c κs =
     let s = c .before .before .before in
     let k = s .before .before .before in
     let w = k .args .w in
-    next-fits (signBytes (w .minus)) (decimal (w .size)) (k .pre) (s .put-sign .ensures)
+    next-fits (signBytes (w .minus)) (decimal (w .abs)) (k .pre) (s .put-sign .ensures)
 
 returns : tie.Need-returns
 returns c =

@@ -15,7 +15,7 @@ use Rattle.report.proofs.refused_line.Statement.{statement}
 use Rattle.report.proofs.refused_line.Tie as tie
 
 abbrev number : ℕ → List ℕ
-number k = wordBytes (record { minus = false; size = k })
+number k = wordBytes (record { minus = false; abs = k })
 
 -- the line, of as many bytes as are counted
 known : (w : tie.After-word-length) →

@@ -1,7 +1,8 @@
 -- `split_ends` meets its contract.
 use mathlib.Core.Path.{refl}
 use borrow.Author.Needs.{needs}
-use Rattle.signed_theory.proofs.Laws.{back}
+use mir.Syntax.{w64}
+use mir.ValLaws.{toZ-ofZ}
 use Rattle.report.proofs.split_ends.Statement.{statement}
 use Rattle.report.proofs.split_ends.Tie as tie
 
@@ -12,8 +13,8 @@ returns c =
     rw (
       low .split .ensures,
       c .split2 .ensures,
-      back (e .low) (low .before .struct-told .given .0 .1),
-      back (e .high) (c .before .struct-told2 .given .1 .0 .1),
+      toZ-ofZ w64 (e .low) (record { sfits = low .before .struct-told .given .0 .1 }),
+      toZ-ofZ w64 (e .high) (record { sfits = c .before .struct-told2 .given .1 .0 .1 }),
     ) refl
 
 pub split-ends-spec : {M : Type 1} → statement M

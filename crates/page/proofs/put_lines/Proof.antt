@@ -3,7 +3,8 @@ use mathlib.Core.Path.{_≡_, refl, sym, _∙_}
 use Prim.Native.Nat.{_+_, _-_, _≤_}
 use native.Mathlib.Omega.{arith}
 use borrow.Author.Needs.{needs}
-use lib.ListN.{length}
+use lib.ListN.{length, take}
+use lib.Seq.{length-take-le}
 use Rattle.record_theory.proofs.Laws.{read-size}
 use Rattle.engine_theory.specs.Evaluation.{answerOf}
 use Rattle.report_theory.specs.Lines.{lineOf}
@@ -11,21 +12,30 @@ use Rattle.enclosures_theory.specs.Output.{ended}
 use Rattle.enclosures_theory.specs.Steps.{Added, Going}
 use Rattle.enclosures_theory.proofs.Adding.{part-length}
 use Rattle.enclosures_theory.proofs.Steps.{start, read-step, refused-step, end-step, has-room}
-use Rattle.enclosures.proofs.put_lines.Statement.{statement}
-use Rattle.enclosures.proofs.put_lines.Tie as tie
+use Rattle.page.proofs.put_lines.Statement.{statement}
+use Rattle.page.proofs.put_lines.Tie as tie
 
 abbrev Inv-loop : tie.InvT-loop
-Inv-loop s out₀ at₀ count₀ next₀ out at count next = Going s out at count next × (length out ≡ length out₀)
+Inv-loop s out₀ start at₀ count₀ next₀ out at count next =
+    Going (take start out₀) s out at count next × (length out ≡ length out₀)
 
 abbrev μ-loop : tie.MeasureT-loop
-μ-loop s out₀ at₀ count₀ next₀ out at count next = length s - at
+μ-loop s out₀ start at₀ count₀ next₀ out at count next = length s - at
+
+-- the front is as long as its place says
+front-fits : (k : tie.In-loop Inv-loop μ-loop) →
+    let a = k .before .before .before .before .args in
+    length (take (a .start) (a .out .now)) ≡ a .start
+front-fits k =
+    let s = k .before .before .before .before in
+    length-take-le (s .args .start) (s .args .out .now) (omega arith)
 
 put-line-requires : tie.Need-put-line-requires Inv-loop μ-loop
 put-line-requires c κs =
     let k = c .before .before .before .before .before .before .before in
     let l = k .before .loop in
     let p = k .before .before .before .before .pre in
-    omega (arith, has-room (l .inv .0) (k .loop-test .taken) (p .1))
+    omega (arith, has-room (l .inv .0) (k .loop-test .taken) (p .1), front-fits k)
 
 -- what an accepted read takes of the bytes that are left
 taken : (c : tie.After-slice-known2 Inv-loop μ-loop) →
@@ -65,7 +75,7 @@ put-line-requires-2 c κs =
     let k = c .before .before .before .before .before .before in
     let l = k .before .loop in
     let p = k .before .before .before .before .pre in
-    omega (arith, has-room (l .inv .0) (k .loop-test .taken) (p .1))
+    omega (arith, has-room (l .inv .0) (k .loop-test .taken) (p .1), front-fits k)
 
 returns : tie.Need-returns Inv-loop μ-loop
 returns c =
@@ -86,7 +96,7 @@ put-lines-spec =
     tie.close
     (tie.spec
     Inv-loop μ-loop
-    (λ c. (start _ _, refl))
+    (λ c. (start _ _ _ (omega arith), refl))
     (λ c. search needs) (λ c. search needs) (λ c. search needs) (λ c. search needs) (λ c κs. search needs)
     (λ c. search needs) (λ c κs. search needs) put-line-requires add-at
     (λ c. omega (arith, taken c))
