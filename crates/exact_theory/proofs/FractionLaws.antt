@@ -28,14 +28,7 @@ unfolding _over_
 over-Is z zero h = absurd (omega arith)
 over-Is z (suc d) h = is-self (z over suc d)
 
--- a number of one sign
-pub over-above : (z : ℤ) (d : ℕ) → 1 ≤ d → down z ≤ 0 → Is (z over d) (up z) 0 d
-over-above z d h s = let i = over-Is z d h in record { value = omega arith; scale = i .scale }
-
-pub over-below : (z : ℤ) (d : ℕ) → 1 ≤ d → up z ≤ 0 → Is (z over d) 0 (down z) d
-over-below z d h s = let i = over-Is z d h in record { value = omega arith; scale = i .scale }
-
--- the same of a fraction by its own numerator, where its denominator is known
+-- a fraction by its own numerator, also of one sign, where its denominator is known
 module _ (x : Fraction) {d : ℕ} (scale : x .den ≡ d) where
   pub num-Is : Is x (up (x .num)) (down (x .num)) d
   num-Is = record { value = omega arith; scale = scale }

@@ -38,8 +38,8 @@ rootFineness = 131_072
 unfoldable pub width : Pair → Fraction
 width P = P .high -q P .low
 
--- √X lies from k/rootFineness to (k + 1)/rootFineness, and 0.01151, the greatest absolute value of c3 in Boore-Atkinson's Table
--- 6, times that over 100 is less than 1 unit wide
+-- √X lies from k/rootFineness to (k + 1)/rootFineness, and 0.01151, the greatest absolute value of c3 in
+-- Boore-Atkinson's Table 6, times that over 100 is less than 1 unit wide
 pub record RootEnds (X k : ℕ) : Type 0 where
   pub encloses : Encloses (rootValues rootFineness k) (root X)
   pub narrow : pos 1151 over 100_000 *q pos 1 over 100 *q width (rootValues rootFineness k) <q units (pos 1)

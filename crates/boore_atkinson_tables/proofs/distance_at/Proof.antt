@@ -45,7 +45,8 @@ returns c =
     let k = a .before .args .k in
     let h = a .before .pre in
     let same =
-    row-found distanceParts table6 (noRow .distance) k _ (a .table-6 .ensures) (omega (arith, h)) (c .before .loop .inv) in
+    row-found distanceParts table6 (noRow .distance) k _ (a .table-6 .ensures) (omega (arith, h))
+    (c .before .loop .inv) in
     (same, rw same (distance-limits k h .sizes))
 
 pub distance-at-spec : {M : Type 1} → statement M

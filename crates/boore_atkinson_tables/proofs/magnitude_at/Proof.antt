@@ -45,7 +45,8 @@ returns c =
     let k = a .before .args .k in
     let h = a .before .pre in
     let same =
-    row-found magnitudeParts table7 (noRow .magnitude) k _ (a .table-7 .ensures) (omega (arith, h)) (c .before .loop .inv) in
+    row-found magnitudeParts table7 (noRow .magnitude) k _ (a .table-7 .ensures) (omega (arith, h))
+    (c .before .loop .inv) in
     (same, rw same (magnitude-limits k h .sizes))
 
 pub magnitude-at-spec : {M : Type 1} → statement M
