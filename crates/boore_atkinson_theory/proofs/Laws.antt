@@ -44,7 +44,7 @@ use Rattle.boore_atkinson_theory.proofs.SiteLaws.{linear-lies, slope-be
 use Rattle.boore_atkinson_theory.proofs.SiteSizes.{linear-sized, nonlinear-sized, nonlinear-narrow}
 use Rattle.boore_atkinson_theory.proofs.CurveLaws.{nonlinear-lies}
 
--- ---- motions and their ends
+-- ---- signed pairs and their ends
 
 pub signed-wider : {a : SignedPair} {w b w' b' : ℕ} → SignedSized a w b → w ≤ w' → b ≤ b' → SignedSized a w' b'
 signed-wider s hw hb = record {

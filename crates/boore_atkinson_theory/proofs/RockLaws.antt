@@ -32,7 +32,7 @@ use Rattle.boore_atkinson_theory.specs.Evaluation.{kmOf, effectiveOf, sp
 use Rattle.boore_atkinson_theory.specs.Evaluation.{rockOf, plusOf}
 use Rattle.boore_atkinson_theory.proofs.RockSizes.{spread-bounds, Squares, squares, effective-domain}
 
--- x is something between up's ends less something between down's
+-- x is something between gain's ends less something between loss's
 abbrev pub LiesIn : Fraction → SignedPair → Type 0
 LiesIn x a = Lies x (a .gain .low) (a .loss .high) (a .gain .high) (a .loss .low)
 

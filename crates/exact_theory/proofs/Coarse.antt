@@ -133,12 +133,13 @@ module _ {a b n : ℕ} (hb : 1 ≤ b) (hab : b ≤ a) (g : 1 ≤ n) where
       inside-of (ln-proper (le-trans hb hab) hb n g) (simp (le-leb b a hab) lower-least)
       (simp (le-leb b a hab) upper-most)
 
+in-negated : {x : Fraction} {P : Pair} → x ∈ P → negQ x ∈ negated P
+unfolding negated
+in-negated h = record { from = neg-anti (h .to); to = neg-anti (h .from) }
+
 flipped : {P Q : Pair} → Inside P Q → Inside (negated P) (negated Q)
 unfolding negated
-flipped h = record {
-  low = record { from = neg-anti (h .high .to); to = neg-anti (h .high .from) };
-  high = record { from = neg-anti (h .low .to); to = neg-anti (h .low .from) };
-}
+flipped h = record { low = in-negated (h .high); high = in-negated (h .low) }
 
 ln-inside : {a b n : ℕ} → 1 ≤ a → 1 ≤ b → 1 ≤ n → Inside (lnPair n a b) (coarse (ln a b))
 unfolding coarse negated

@@ -106,16 +106,16 @@ pub fn median(
     )
 }
 
-// x held to the range from least to most.
-fn clamp(least: u16, most: u16, x: u16) -> u16
-    requires { ⌜ least ≤ most ⌝ }
-    ensures { λ r. ⌜ r ≡ clamp least most x ⌝ }
+// x held to the range from low to high.
+fn clamp(low: u16, high: u16, x: u16) -> u16
+    requires { ⌜ low ≤ high ⌝ }
+    ensures { λ r. ⌜ r ≡ clamp low high x ⌝ }
 {
-    if x < least {
-        return least;
+    if x < low {
+        return low;
     }
-    if most < x {
-        return most;
+    if high < x {
+        return high;
     }
     x
 }

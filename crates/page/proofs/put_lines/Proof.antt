@@ -8,6 +8,7 @@ use lib.Seq.{length-take-le}
 use Rattle.record_theory.proofs.Laws.{read-size}
 use Rattle.engine_theory.specs.Evaluation.{answerOf}
 use Rattle.report_theory.specs.Lines.{lineOf}
+use Rattle.enclosures_theory.specs.Sizes.{lineMost}
 use Rattle.enclosures_theory.specs.Output.{ended}
 use Rattle.enclosures_theory.specs.Steps.{Added, Going}
 use Rattle.enclosures_theory.proofs.Adding.{part-length}
@@ -22,20 +23,13 @@ Inv-loop s out₀ start at₀ count₀ next₀ out at count next =
 abbrev μ-loop : tie.MeasureT-loop
 μ-loop s out₀ start at₀ count₀ next₀ out at count next = length s - at
 
--- the front is as long as its place says
-front-fits : (k : tie.In-loop Inv-loop μ-loop) →
-    let a = k .before .before .before .before .args in
-    length (take (a .start) (a .out .now)) ≡ a .start
-front-fits k =
-    let s = k .before .before .before .before in
-    length-take-le (s .args .start) (s .args .out .now) (omega arith)
-
-put-line-requires : tie.Need-put-line-requires Inv-loop μ-loop
-put-line-requires c κs =
-    let k = c .before .before .before .before .before .before .before in
+-- there is room for a line more, as the front is as long as its place says
+line-fits : (k : tie.In-loop Inv-loop μ-loop) → let l = k .before .loop in l .next + lineMost ≤ length (l .out)
+line-fits k =
     let l = k .before .loop in
-    let p = k .before .before .before .before .pre in
-    omega (arith, has-room (l .inv .0) (k .loop-test .taken) (p .1), front-fits k)
+    let s = k .before .before .before .before in
+    let front = length-take-le (s .args .start) (s .args .out .now) (omega arith) in
+    omega (arith, has-room (l .inv .0) (k .loop-test .taken) (s .pre .1), front)
 
 -- what an accepted read takes of the bytes that are left
 taken : (c : tie.After-slice-known2 Inv-loop μ-loop) →
@@ -49,11 +43,6 @@ taken c =
     let size = read-size _ _ _ (sym (r .before .before .read .ensures .0) ∙ r .r .given .1) in
     let whole = part-length (l .before .before .before .args .s .now) (l .loop .at) in
     (size .0, omega arith)
-
-add-at : tie.Need-add-at Inv-loop μ-loop
-add-at c =
-    let l = c .before .before .before .before .before .before .before .before .before .before .before in
-    record { fits = omega (arith, taken c) }
 
 loop-again : tie.Need-loop-again Inv-loop μ-loop
 loop-again c =
@@ -69,13 +58,6 @@ loop-again c =
       read-step (l .inv .0) (t .loop-test .taken) x _ (sym (r .before .before .read .ensures .0) ∙ r .r .given .1) put,
       put .room ∙ l .inv .1,
     )
-
-put-line-requires-2 : tie.Need-put-line-requires-2 Inv-loop μ-loop
-put-line-requires-2 c κs =
-    let k = c .before .before .before .before .before .before in
-    let l = k .before .loop in
-    let p = k .before .before .before .before .pre in
-    omega (arith, has-room (l .inv .0) (k .loop-test .taken) (p .1), front-fits k)
 
 returns : tie.Need-returns Inv-loop μ-loop
 returns c =
@@ -98,6 +80,10 @@ put-lines-spec =
     Inv-loop μ-loop
     (λ c. (start _ _ _ (omega arith), refl))
     (λ c. search needs) (λ c. search needs) (λ c. search needs) (λ c. search needs) (λ c κs. search needs)
-    (λ c. search needs) (λ c κs. search needs) put-line-requires add-at
+    (λ c. search needs) (λ c κs. search needs)
+    (λ c κs. line-fits (c .before .before .before .before .before .before .before))
+    (λ c. record { fits = omega (arith, taken c) })
     (λ c. omega (arith, taken c))
-    loop-again (λ c. search needs) put-line-requires-2 (λ c. search needs) returns (λ c. search needs) returns-2)
+    loop-again (λ c. search needs)
+    (λ c κs. line-fits (c .before .before .before .before .before .before))
+    (λ c. search needs) returns (λ c. search needs) returns-2)
