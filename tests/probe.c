@@ -1,7 +1,7 @@
 /* Answers lines of standard input with the proved functions, one line each (bytes are hexadecimal pairs, - for none):
    ln A B                 LOW HIGH, or none where the arguments are out of the function's domain
    root X                 R, or none
-   row MODEL PERIOD       the row of the period in the model's tables
+   place MODEL PERIOD     row K, between K (the rows K and K + 1) or outside: the period in the model's tables
    rest BYTES             the bytes after the record at their front
    table MAGNITUDE        2 or 3, the table of Idriss that the magnitude takes
    idriss TABLE ROW MAGNITUDE DISTANCE VELOCITY MECHANISM, idriss_sigma PERIOD MAGNITUDE,
@@ -21,9 +21,14 @@ typedef struct {
     int64_t low, high;
 } ProbedEnds;
 
+typedef struct {
+    uint8_t kind;
+    size_t row;
+} ProbedPlace;
+
 extern Probed probe_ln(uint64_t a, uint64_t b);
 extern uint64_t probe_root(uint64_t x);
-extern size_t probe_row(uint8_t model, uint16_t period);
+extern ProbedPlace probe_place(uint8_t model, uint16_t period);
 extern size_t probe_rest_length(const uint8_t *bytes, size_t count);
 extern uint8_t probe_rest_byte(const uint8_t *bytes, size_t count, size_t place);
 
@@ -125,8 +130,12 @@ static int answer(const char *line)
             printf("%" PRIu64 "\n", r);
         else
             puts("none");
-    } else if (sscanf(line, "row %" SCNu64 " %" SCNu64, &a, &b) == 2) {
-        printf("%zu\n", probe_row((uint8_t)a, (uint16_t)b));
+    } else if (sscanf(line, "place %" SCNu64 " %" SCNu64, &a, &b) == 2) {
+        ProbedPlace p = probe_place((uint8_t)a, (uint16_t)b);
+        if (p.kind == 2)
+            puts("outside");
+        else
+            printf("%s %zu\n", p.kind == 0 ? "row" : "between", p.row);
     } else if (sscanf(line, "rest %2048s", text) == 1 && (n = bytes_of(text, bytes)) >= 0) {
         answer_rest(bytes, (size_t)n);
     } else {

@@ -87,6 +87,19 @@ def row(model, period):
     return rows.index(wanted) if wanted in rows else NO_ROW
 
 
+def place(model, period):
+    """Return where a period stands in the tables of model 1 or 2: in a row, between two rows of its list, or neither.
+
+    The row of period 0 is no neighbour of any period: between are only periods of the list.
+    """
+    if row(model, period) != NO_ROW:
+        return f'row {row(model, period)}'
+    before = [tabled for tabled in PERIODS[model] if tabled < period]
+    if before and len(before) < len(PERIODS[model]):
+        return f'between {row(model, before[-1])}'
+    return 'outside'
+
+
 # ---------------------------------------------------------------------------
 # Records
 # ---------------------------------------------------------------------------

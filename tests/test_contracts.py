@@ -116,7 +116,7 @@ def promise_deleted(root):
     path, _, contract = function(root, crates(root, OPEN), least=2)
     first = ENSURES.search(contract)[0]
     change(root, path, contract, contract.replace(first, '', 1))
-    return [f'  `{path}`\n', '-' + first.splitlines()[0]]
+    return [f'  `{path}`', '-' + first.splitlines()[0]]
 
 
 def every_promise_deleted(root):

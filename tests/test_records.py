@@ -10,7 +10,7 @@ ASK, a host's program, and PROBE read one question from each line of their input
 
 and PROBE
 
-    row MODEL PERIOD                                                -> N
+    place MODEL PERIOD                                              -> row N, between N (and N + 1), or outside
     rest BYTES                                                      -> REST
 
 Numbers are decimal; bytes are pairs of lower-case hexadecimal digits, or - for none, and at most 259 of them.
@@ -24,7 +24,7 @@ from itertools import combinations
 from typing import NamedTuple, Optional
 
 from ask import ask
-from records import Scenario, read, record, refusal, row, write
+from records import Scenario, place, read, record, refusal, write
 
 COUNT = 20000
 SEED = 20080214
@@ -201,8 +201,8 @@ def subsets(items):
 def answer(line):
     """Return what records.py answers to a line."""
     name, *words = line.split(' ')
-    if name == 'row':
-        return str(row(int(words[0]), int(words[1])))
+    if name == 'place':
+        return place(int(words[0]), int(words[1]))
     if name == 'read':
         answered = read(taken(words[0]))
         if answered[0] == 'R':
@@ -280,12 +280,16 @@ def refusal_order():
 
 
 def periods():
-    """The row of every period in both models, and whether periods are turned away."""
-    rows = {period: (idriss, boore_atkinson) for period, idriss, boore_atkinson in ROWS}
+    """The place of every period in both models, and whether periods are turned away."""
     for model in (1, 2):
+        rows = {period: numbers[model - 1] for period, *numbers in ROWS if numbers[model - 1] != 22}
+        last = 'outside'
         for period in range(65536):
-            number = rows.get(period, (22, 22))[model - 1]
-            yield Question('rows', text('row', model, period), str(number))
+            number = rows.get(period, 22)
+            if number != 22:
+                # What follows lies between this row and the next, but after period 0 and after the last row.
+                last = 'outside' if period in (0, 10000) else f'between {number}'
+            yield Question('rows', text('place', model, period), last if number == 22 else f'row {number}')
             # Every tabled period, the numbers beside it and beside all other multiples of 5, and the greatest.
             if period % 5 in (0, 1, 4) and period <= 10001 or period == 65535:
                 scenario = GOOD[model]._replace(period=period)
@@ -546,7 +550,7 @@ def rules_fault(question, expected):
     name, *words = question.line.split(' ')
     if name == 'read':
         return read_fault(taken(words[0]))
-    if name == 'row':
+    if name == 'place':
         return None
     scenario = Scenario(*map(int, words[:6]))
     fault = scenario_fault(scenario)
@@ -558,12 +562,13 @@ def rules_fault(question, expected):
 def outcome(question, expected):
     """Return the question's name and what its answer comes to, without scenarios, lengths and bytes."""
     words = expected.split(' ')
-    return text(question.line.split(' ')[0], *words[:2 if words[0] == 'R' else 1])
+    return text(question.line.split(' ')[0], *words[:2 if words[0] in ('R', 'row', 'between') else 1])
 
 
 def outcomes_fault(asked, answers):
     """Return which outcomes of document 01 no question has, or which of them there should not be, or None."""
-    wanted = {f'refusal {number}' for number in range(7)} | {f'row {number}' for number in range(23)}
+    wanted = {f'refusal {number}' for number in range(7)} | {f'place row {number}' for number in range(22)}
+    wanted |= {f'place between {number}' for number in range(21)} | {'place outside'}
     # Reading never gives 10, as 9 comes first.
     wanted |= {f'read R {number}' for number in (1, 2, 3, 4, 5, 6, 7, 8, 9, 11)} | {'read E'}
     wanted |= {f'write R {number}' for number in (1, 2, 3, 4, 5, 6, 12)} | {'write L'}
@@ -601,10 +606,10 @@ def check_program(program, asked, answers):
 
 
 def check_programs(host, probe, asked, answers):
-    """Return the faults of a host's program, and those of the probe in rows and rests."""
+    """Return the faults of a host's program, and those of the probe in places and rests."""
     faults = check_program(probe, *rests(asked, answers))
     for program, wanted in ((host, False), (probe, True)):
-        part = [pair for pair in zip(asked, answers) if pair[0].line.startswith('row ') == wanted]
+        part = [pair for pair in zip(asked, answers) if pair[0].line.startswith('place ') == wanted]
         faults += check_program(program, [question for question, _ in part], [expected for _, expected in part])
     return faults
 

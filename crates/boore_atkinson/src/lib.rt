@@ -1,46 +1,57 @@
 // The median and sigma of Boore and Atkinson 2008, each by two ends that enclose the exact value, in units of 10^-9.
 ghost use mathlib.Core.Path.{_≡_};
 ghost use mathlib.Core.Bool.{cond};
-ghost use Prim.Native.Nat.{_<_};
+ghost use Prim.Native.Nat.{_≤_, _<_};
 ghost use lib.Dec.{eqb};
 ghost use Rattle.scenario_theory.specs.Rows.{rowCount};
 ghost use Rattle.boore_atkinson_theory.specs.Rows.{rowAt, totalAt};
 ghost use Rattle.boore_atkinson_theory.specs.Promise.{MedianDomain, MedianEnds, NonlinearDomain, NonlinearEnds};
 ghost use Rattle.boore_atkinson_theory.specs.Promise.{SigmaEnds};
-ghost use Rattle.boore_atkinson_theory.specs.Evaluation.{plusOf, endsOf, medianOf, nonlinearEndsOf, sigmaOf};
-ghost use Rattle.boore_atkinson_theory.specs.Sizes.{SignedSized};
+ghost use Rattle.boore_atkinson_theory.specs.Evaluation.{vs30LnOf, minusPFor, medianPairOf, medianOf, nonlinearEndsOf};
+ghost use Rattle.boore_atkinson_theory.specs.Evaluation.{sigmaOf};
 use boore_atkinson_rock as rock;
 use boore_atkinson_site as site;
 use boore_atkinson_tables as table;
-use boore_atkinson_theory::SignedPair;
 use boore_atkinson_theory::TotalRow;
-use signed::between;
+use interval::between;
+use interval::ends;
+use interval::plus;
+use interval_theory::Ends;
+use interval_theory::SignedEnds;
+use interval_theory::SignedPair;
 
-fn plus(a: SignedPair, b: SignedPair) -> SignedPair
-    requires { ⌜ SignedSized a 400_000_000_000 400_000_000_000 × SignedSized b 400_000_000_000 400_000_000_000 ⌝ }
-    ensures { λ r. ⌜ r ≡ plusOf a b ⌝ }
+// The median by row k of the tables, 0 for PGA, as a gain less a loss. What rows have in common is worked out before:
+// l, the absolute value of ln(V/760), and b, in which −p lies.
+pub fn median_by_row(
+    k: usize,
+    m: u64,
+    d: u64,
+    v: u64,
+    l: Ends,
+    b: Ends,
+    mechanism: u8,
+) -> SignedPair
+    requires { ⌜ MedianDomain k m d v × (l ≡ vs30LnOf v) ⌝ }
+    requires { ⌜ (b ≡ minusPFor v m d mechanism) × (b .low ≤ b .high) ⌝ }
+    ensures { λ a. ⌜ a ≡ medianPairOf (rowAt k) m d v mechanism ⌝ }
 {
-    SignedPair {
-        gain: outward::sum(a.gain, b.gain),
-        loss: outward::sum(a.loss, b.loss),
-    }
+    let row = table::distance_at(k);
+    let effective = rock::effective_distance(d, row.4 as u64);
+    let motion = rock::rock(row, table::magnitude_at(k), m, effective, mechanism);
+    let s = table::site_at(k);
+    let linear = site::linear(s, v, l);
+    let nonlinear = site::nonlinear_part(s, v, l, b);
+    plus(plus(motion, linear), nonlinear)
 }
 
-fn ends(a: SignedPair) -> signed_theory::Ends
-    requires { ⌜ SignedSized a 800_000_000_000 800_000_000_000 ⌝ }
-    ensures { λ r. ⌜ r ≡ endsOf a ⌝ }
-{
-    between(a.gain.low, a.loss.high, a.gain.high, a.loss.low)
-}
-
-// The median by row k of the tables, 0 for PGA.
+// The median by row k.
 pub fn median(
     k: usize,
     magnitude: u16,
     projection_distance: u16,
     vs30: u16,
     mechanism: u8,
-) -> signed_theory::Ends
+) -> SignedEnds
     requires { ⌜ MedianDomain k magnitude «projection_distance» vs30 ⌝ }
     ensures { λ r. ⌜ r ≡ medianOf (rowAt k) magnitude «projection_distance» vs30 mechanism ⌝ }
     ensures { λ r. ⌜ MedianEnds (rowAt k) magnitude «projection_distance» vs30 mechanism r ⌝ }
@@ -48,18 +59,13 @@ pub fn median(
     let m = magnitude as u64;
     let d = projection_distance as u64;
     let v = vs30 as u64;
-    let row = table::distance_at(k);
-    let effective = rock::effective_distance(d, row.4 as u64);
-    let motion = rock::rock(row, table::magnitude_at(k), m, effective, mechanism);
-    let s = table::site_at(k);
+    let b = rock::minus_p_for(v, m, d, mechanism);
     let l = site::vs30_ln(v);
-    let linear = site::linear(s, v, l);
-    let nonlinear = site::nonlinear_part(s, v, l, rock::minus_p_for(v, m, d, mechanism));
-    ends(plus(plus(motion, linear), nonlinear))
+    ends(median_by_row(k, m, d, v, l, b, mechanism))
 }
 
 // The nonlinear part by row k, where −p lies in b.
-pub fn nonlinear(k: usize, vs30: u16, b: logarithm_theory::Ends) -> signed_theory::Ends
+pub fn nonlinear(k: usize, vs30: u16, b: Ends) -> SignedEnds
     requires { ⌜ NonlinearDomain k vs30 b ⌝ }
     ensures { λ r. ⌜ r ≡ nonlinearEndsOf (rowAt k .site) vs30 b ⌝ }
     ensures { λ r. ⌜ NonlinearEnds (rowAt k .site) vs30 b r ⌝ }
@@ -79,7 +85,7 @@ fn total(t: TotalRow, mechanism: u8) -> u32
 }
 
 // Sigma by row k.
-pub fn sigma(k: usize, mechanism: u8) -> signed_theory::Ends
+pub fn sigma(k: usize, mechanism: u8) -> SignedEnds
     requires { ⌜ k < rowCount ⌝ }
     ensures { λ r. ⌜ r ≡ sigmaOf (totalAt k) mechanism ⌝ }
     ensures { λ r. ⌜ SigmaEnds (totalAt k) mechanism r ⌝ }

@@ -1,17 +1,18 @@
 // The motion on rock: the distance term and the magnitude term.
 ghost use mathlib.Core.Path.{_≡_};
 ghost use Prim.Native.Nat.{_≤_, _+_, _*_};
-ghost use Rattle.outward_theory.specs.Evaluation.{Sized};
+ghost use Rattle.interval_theory.specs.Bound.{Sized};
 ghost use Rattle.boore_atkinson_theory.specs.Rows.{DistanceLimits, MagnitudeLimits};
 ghost use Rattle.boore_atkinson_theory.specs.Evaluation.{effectiveOf, spreadOf, fallOf, levelOf, magnitudeOf, rockOf};
 ghost use Rattle.boore_atkinson_theory.specs.Evaluation.{minusPOf, minusPFor};
-ghost use Rattle.boore_atkinson_theory.specs.Sizes.{EffectiveSized, MagnitudeBounds, Small, SignedSized};
+ghost use Rattle.boore_atkinson_theory.specs.Sizes.{EffectiveSized, MagnitudeBounds, Small, termMost, rockMost};
+ghost use Rattle.interval_theory.specs.Bound.{SignedSized};
 use boore_atkinson_theory::DistanceRow;
 use boore_atkinson_theory::EffectiveDistance;
 use boore_atkinson_theory::Exact;
 use boore_atkinson_theory::MagnitudeRow;
-use boore_atkinson_theory::SignedPair;
-use logarithm_theory::Ends;
+use interval_theory::Ends;
+use interval_theory::SignedPair;
 
 // R, from a projection distance and h.
 pub fn effective_distance(projection_distance: u64, h: u64) -> EffectiveDistance
@@ -43,9 +44,9 @@ fn fall(r: DistanceRow, m: u64, s: EffectiveDistance) -> Ends
     requires { ⌜ DistanceLimits r × (500 ≤ m) × (m ≤ 800) × EffectiveSized s ⌝ }
     ensures { λ e. ⌜ (e ≡ fallOf r m s) × Sized e 4 12_700_000_000 ⌝ }
 {
-    let spreading = outward::multiple(spread(r, m), s.ln);
-    let anelastic = outward::multiple(200 * r.3 as u64, s.km);
-    outward::sum(spreading, anelastic)
+    let spreading = interval::multiple(spread(r, m), s.ln);
+    let anelastic = interval::multiple(200 * r.3 as u64, s.km);
+    interval::sum(spreading, anelastic)
 }
 
 // e, by the code of the mechanism.
@@ -76,7 +77,7 @@ fn level(r: MagnitudeRow, mechanism: u8) -> Exact
 // The magnitude term, exactly.
 fn magnitude_term(r: MagnitudeRow, m: u64, mechanism: u8) -> Exact
     requires { ⌜ MagnitudeLimits r × MagnitudeBounds r m ⌝ }
-    ensures { λ e. ⌜ (e ≡ magnitudeOf r m mechanism) × Small e 60_000_000_000 ⌝ }
+    ensures { λ e. ⌜ (e ≡ magnitudeOf r m mechanism) × Small e termMost ⌝ }
 {
     let e = level(r, mechanism);
     let hinge = r.11 as u64;
@@ -103,7 +104,7 @@ pub fn rock(
     mechanism: u8,
 ) -> SignedPair
     requires { ⌜ DistanceLimits r × MagnitudeLimits q × (500 ≤ m) × (m ≤ 800) × EffectiveSized s ⌝ }
-    ensures { λ a. ⌜ (a ≡ rockOf r q m s mechanism) × SignedSized a 4 80_000_000_000 ⌝ }
+    ensures { λ a. ⌜ (a ≡ rockOf r q m s mechanism) × SignedSized a 4 rockMost ⌝ }
 {
     let f = fall(r, m, s);
     let g = magnitude_term(q, m, mechanism);
@@ -123,7 +124,7 @@ pub fn rock(
 // −p, p the logarithm of the rock acceleration.
 pub fn minus_p(m: u64, projection_distance: u64, mechanism: u8) -> Ends
     requires { ⌜ (500 ≤ m) × (m ≤ 800) × («projection_distance» ≤ 19_999) ⌝ }
-    ensures { λ b. ⌜ (b ≡ minusPOf m «projection_distance» mechanism) × Sized b 4 80_000_000_000 ⌝ }
+    ensures { λ b. ⌜ (b ≡ minusPOf m «projection_distance» mechanism) × Sized b 4 rockMost ⌝ }
 {
     let r = boore_atkinson_tables::pga_distance();
     let s = effective_distance(projection_distance, r.4 as u64);
@@ -137,7 +138,7 @@ pub fn minus_p(m: u64, projection_distance: u64, mechanism: u8) -> Ends
 // −p as the median rests on it: from 760 m/s on the slope is 0, p has no part in it, and 0 stands for −p.
 pub fn minus_p_for(v: u64, m: u64, projection_distance: u64, mechanism: u8) -> Ends
     requires { ⌜ (500 ≤ m) × (m ≤ 800) × («projection_distance» ≤ 19_999) ⌝ }
-    ensures { λ b. ⌜ (b ≡ minusPFor v m «projection_distance» mechanism) × Sized b 4 80_000_000_000 ⌝ }
+    ensures { λ b. ⌜ (b ≡ minusPFor v m «projection_distance» mechanism) × Sized b 4 rockMost ⌝ }
 {
     if 7_600 <= v {
         return Ends { low: 0, high: 0 };

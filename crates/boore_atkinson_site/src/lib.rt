@@ -1,23 +1,25 @@
 // The site term: the linear part and the nonlinear part.
 ghost use mathlib.Core.Path.{_≡_};
 ghost use Prim.Native.Nat.{_≤_, _<_};
-ghost use Rattle.outward_theory.specs.Evaluation.{Sized};
+ghost use Rattle.interval_theory.specs.Bound.{Sized};
 ghost use Rattle.boore_atkinson_theory.specs.Rows.{SiteLimits};
-ghost use Rattle.boore_atkinson_theory.specs.Evaluation.{exactly, vs30LnOf, linearOf, slowSlopeOf, fastSlopeOf};
+ghost use Rattle.interval_theory.specs.Natural.{exactly};
+ghost use Rattle.boore_atkinson_theory.specs.Evaluation.{vs30LnOf, linearOf, slowSlopeOf, fastSlopeOf};
 ghost use Rattle.boore_atkinson_theory.specs.Evaluation.{slopeOf, zOf, cubicOf, straightOf, branchOf, curveOf};
 ghost use Rattle.boore_atkinson_theory.specs.Evaluation.{nonlinearOf};
 ghost use Rattle.boore_atkinson_theory.specs.Constants.{minusLnA2};
 ghost use Rattle.boore_atkinson_theory.specs.Tables.{Vref, V2, V1};
-ghost use Rattle.boore_atkinson_theory.specs.Sizes.{SignedSized, curveMost};
-use boore_atkinson_theory::SignedPair;
+ghost use Rattle.interval_theory.specs.Bound.{SignedSized};
+ghost use Rattle.boore_atkinson_theory.specs.Sizes.{linearMost, curveMost, nonlinearMost};
 use boore_atkinson_theory::SiteRow;
-use logarithm_theory::Ends;
-use outward::max;
-use outward::min;
-use outward::multiple;
-use outward::product;
-use outward::span;
-use outward::sum;
+use interval::hull;
+use interval::max;
+use interval::min;
+use interval::multiple;
+use interval::product;
+use interval::sum;
+use interval_theory::Ends;
+use interval_theory::SignedPair;
 
 // ln(0.1/0.06), 1/ln(300/180), 1/ln(760/300), and c and d over the slope.
 const MINUS_LN_LOW: Ends = Ends {
@@ -65,7 +67,7 @@ pub fn vs30_ln(v: u64) -> Ends
 // blin ln(V/760), where l is the absolute value of the logarithm.
 pub fn linear(s: SiteRow, v: u64, l: Ends) -> SignedPair
     requires { ⌜ SiteLimits s × (V1 ≤ v) × (v ≤ 13_000) × (l ≡ vs30LnOf v) ⌝ }
-    ensures { λ a. ⌜ (a ≡ linearOf s v) × SignedSized a 3 16_000_000_000 ⌝ }
+    ensures { λ a. ⌜ (a ≡ linearOf s v) × SignedSized a 3 linearMost ⌝ }
 {
     let term = multiple(20_000 * s.0 as u64, l);
     if v < 7_600 {
@@ -162,7 +164,7 @@ fn upper(b: Ends) -> Ends
     if b.high < 2_407_945_608 {
         return s;
     }
-    span(cubic(transition_z(b)), s)
+    hull(cubic(transition_z(b)), s)
 }
 
 // What the nonlinear part has beside bnl ln(0.06/0.1), over the slope: every branch that b reaches.
@@ -177,13 +179,13 @@ fn curve(b: Ends) -> Ends
     if b.high < 3_506_557_897 {
         return u;
     }
-    span(exact(0), u)
+    hull(exact(0), u)
 }
 
 // The nonlinear part, where l is the absolute value of ln(V/760), and −p lies in b.
 pub fn nonlinear_part(s: SiteRow, v: u64, l: Ends, b: Ends) -> SignedPair
     requires { ⌜ SiteLimits s × (V1 ≤ v) × (l ≡ vs30LnOf v) × (b .low ≤ b .high) ⌝ }
-    ensures { λ a. ⌜ (a ≡ nonlinearOf s v b) × SignedSized a 2_554_920_006 2_538_000_001 ⌝ }
+    ensures { λ a. ⌜ (a ≡ nonlinearOf s v b) × SignedSized a nonlinearMost nonlinearMost ⌝ }
 {
     let n = slope(s, v, l);
     SignedPair {

@@ -1,14 +1,13 @@
 -- The nonlinear part is bnl times −ln(0.1/0.06) + θ, and θ lies where the evaluation has it, in whichever branch.
 use mathlib.Core.Path.{_≡_, refl}
 use mathlib.Core.Bool.{Bool, true, false, cond}
-use Prim.Native.Nat.{ℕ, _+_, _-_, _≤_, _<_, min, max}
+use Prim.Native.Nat.{ℕ, _-_, _≤_, _<_, min, max}
 use native.Mathlib.Decide.{decLe}
 use native.Mathlib.Omega.{arith}
 use borrow.Author.Tests.{le-leb, lt-ltb}
 use lib.Dec.{leb, ltb}
-use lib.IntN.{pos, negℤ, subℕ}
-use Rattle.exact_theory.specs.Fraction.{Fraction, _over_, leQ, _≤q_, _<q_, _≈q_, zeroQ, _+q_, negQ, _-q_, _*q_, _/q_}
-use Rattle.exact_theory.specs.Fraction.{recipQ}
+use lib.IntN.{subℕ}
+use Rattle.exact_theory.specs.Fraction.{Fraction, leQ, _≤q_, _<q_, _≈q_, zeroQ, _+q_, negQ, _-q_, _*q_, _/q_}
 use Rattle.exact_theory.specs.Formula.{Formula, units}
 use Rattle.exact_theory.proofs.FractionLaws.{is-self, zero-Is, add-Is, neg-Is, le-as, le-of, lt-as, ≤q-trans, <q-≤q}
 use Rattle.exact_theory.proofs.FractionLaws.{≤q-<q-trans, <q-≤q-trans, ≈q-sym}
@@ -17,17 +16,17 @@ use Rattle.exact_theory.proofs.AlgebraLaws.{mul-swap, mul-sub, neg-swap, neg-tw
 use Rattle.exact_theory.proofs.Points.{Points, value}
 use Rattle.exact_theory.proofs.UnitLaws.{Lies, units-Is, lies-negated, lies-same, lies-wider, lies-stated, lies-sum}
 use Rattle.exact_theory.proofs.UnitLaws.{lies-difference}
-use Rattle.logarithm_theory.specs.declared.Ends.{Ends}
+use Rattle.interval_theory.specs.declared.Ends.{Ends}
+use Rattle.interval_theory.specs.declared.SignedPair.{SignedPair}
+use Rattle.interval_theory.specs.Natural.{productOf, hullOf, exactly}
+use Rattle.interval_theory.proofs.NaturalValues.{Held, HeldBelow, product-held, sum-held, hull-left, hull-right}
+use Rattle.interval_theory.proofs.SignedValues.{LiesIn}
 use Rattle.logarithm_theory.proofs.Enclosure.{Known}
-use Rattle.outward_theory.specs.Evaluation.{productOf, spanOf}
-use Rattle.outward_theory.proofs.Laws.{Held, HeldBelow, product-held, sum-held, span-left, span-right}
-use Rattle.boore_atkinson_theory.specs.declared.SignedPair.{SignedPair}
 use Rattle.boore_atkinson_theory.specs.SiteTerm.{Δx, Δy, c, d, lowPart, transition, highPart, nonlinearPart}
-use Rattle.boore_atkinson_theory.specs.Constants.{minusLnLow, minusLnA1, minusLnA2, cOver, dOver}
-use Rattle.boore_atkinson_theory.specs.Evaluation.{exactly, zOf, cubicOf, straightOf, branchOf, curveOf}
+use Rattle.boore_atkinson_theory.specs.Constants.{minusLnLow, minusLnA1, minusLnA2}
+use Rattle.boore_atkinson_theory.specs.Evaluation.{zOf, cubicOf, straightOf, branchOf, curveOf}
 use Rattle.boore_atkinson_theory.proofs.Constants.{low-held, first-below, second-below, ten-below, c-held}
 use Rattle.boore_atkinson_theory.proofs.Constants.{d-held}
-use Rattle.boore_atkinson_theory.proofs.RockLaws.{LiesIn}
 
 -- ---- which branches are reached
 
@@ -43,35 +42,29 @@ passes {b = b} {t} h k lt =
 module _ (b t : Ends) {θ : Fraction} (A B : Ends) where
   branch-from : t .low ≤ b .high → Held θ A → Held θ (branchOf b t A B)
   unfolding branchOf
-  branch-from h k = rw (le-leb (t .low) (b .high) h) (go (ltb (b .low) (t .high)))
-    where
-      go : (c : Bool) → Held θ (cond c (spanOf A B) A)
-      go true = span-left B k
-      go false = k
+  branch-from h k =
+      rw (le-leb (t .low) (b .high) h)
+      (elim (ltb (b .low) (t .high)) as (λ c. Held θ (cond c (hullOf A B) A)) [ true ↦ hull-left B k | false ↦ k ])
 
   branch-below : b .low < t .high → Held θ B → Held θ (branchOf b t A B)
   unfolding branchOf
-  branch-below h k = rw (lt-ltb (b .low) (t .high) h) (go (leb (t .low) (b .high)))
-    where
-      go : (c : Bool) → Held θ (cond c (spanOf A B) B)
-      go true = span-right A k
-      go false = k
+  branch-below h k =
+      rw (lt-ltb (b .low) (t .high) h)
+      (elim (leb (t .low) (b .high)) as (λ c. Held θ (cond c (hullOf A B) B)) [ true ↦ hull-right A k | false ↦ k ])
 
 -- ---- what is not below zero
 
 pub not-below : {z : Fraction} {lu ld hu hd : ℕ} → Lies z lu ld hu hd → zeroQ ≤q z → Held z
     (record { low = lu - ld; high = hu - hd })
-not-below {z} {lu} {ld} {hu} {hd} h some = record {
-  from = low (decLe ld lu);
-  to = ≤q-trans (h .to) (le-of (units-Is hu hd) (units-Is (hu - hd) 0) (omega arith));
-}
-  where
-    order : hd ≤ hu
-    order = omega (arith, le-as zero-Is (units-Is hu hd) (≤q-trans some (h .to)))
-
-    low : Dec (ld ≤ lu) → units (subℕ (lu - ld) 0) ≤q z
-    low (yes g) = ≤q-trans (le-of (units-Is (lu - ld) 0) (units-Is lu ld) (omega arith)) (h .from)
-    low (no g) = ≤q-trans (le-of (units-Is (lu - ld) 0) zero-Is (omega arith)) some
+not-below {z} {lu} {ld} {hu} {hd} h some =
+    let order = le-as zero-Is (units-Is hu hd) (≤q-trans some (h .to)) in
+    record {
+      from = elim (decLe ld lu) [
+        | yes g ↦ ≤q-trans (le-of (units-Is (lu - ld) 0) (units-Is lu ld) (omega arith)) (h .from)
+        | no g ↦ ≤q-trans (le-of (units-Is (lu - ld) 0) zero-Is (omega arith)) some
+      ];
+      to = ≤q-trans (h .to) (le-of (units-Is hu hd) (units-Is (hu - hd) 0) (omega arith));
+    }
 
 -- x − y where y is below x
 above-zero : {x y : Fraction} → y <q x → zeroQ ≤q x -q y
@@ -79,53 +72,35 @@ unfolding _-q_
 above-zero {x} {y} h =
     le-of zero-Is (add-Is (is-self x) (neg-Is (is-self y))) (omega (arith, lt-as (is-self y) (is-self x) h))
 
--- the lesser of two ends is one of them, and so is the greater
-least-of : (m n : ℕ) {x : Fraction} → x ≤q units (subℕ 0 m) → x ≤q units (subℕ 0 n) → x ≤q units (subℕ 0 (max m n))
-least-of m n p q = elim (decLe m n) [
-  | yes g ↦ ≤q-trans q (le-of (units-Is 0 n) (units-Is 0 (max m n)) (omega arith))
-  | no g ↦ ≤q-trans p (le-of (units-Is 0 m) (units-Is 0 (max m n)) (omega arith))
-]
-
-most-of : (m n : ℕ) {x : Fraction} → units (subℕ 0 m) ≤q x → units (subℕ 0 n) ≤q x → units (subℕ 0 (min m n)) ≤q x
-most-of m n p q = elim (decLe m n) [
-  | yes g ↦ ≤q-trans (le-of (units-Is 0 (min m n)) (units-Is 0 m) (omega arith)) p
-  | no g ↦ ≤q-trans (le-of (units-Is 0 (min m n)) (units-Is 0 n) (omega arith)) q
+-- the greater of two numbers is one of them, and so is the lesser
+extremes : (Q : ℕ → Type 0) (m n : ℕ) → Q m → Q n → Q (max m n) × Q (min m n)
+extremes Q m n p q = elim (decLe m n) [
+  | yes g ↦ let e : (max m n ≡ n) × (min m n ≡ m) = omega arith in rw (e .0, e .1) (q, p)
+  | no g ↦ let e : (max m n ≡ m) × (min m n ≡ n) = omega arith in rw (e .0, e .1) (p, q)
 ]
 
 -- ---- θ in each branch
 
 module _ {σ : Points} (known : Known σ) {P : Fraction} {b : Ends} (h : HeldBelow P b) where
-  -- ln(0.1/0.06)
-  abbrev κ : Fraction
-  κ = σ .lnAt 10 6
-
   -- above ln 0.03 and up to ln 0.09
   z-held : σ .lnAt 3 100 <q P → P ≤q σ .lnAt 9 100 → Held (P -q σ .lnAt 3 100) (zOf b)
   unfolding zOf
   z-held lt le =
-      let p : Lies P 0 (b .high) 0 (max (b .low) (minusLnA2 .low)) = record {
-        from = h .from;
-        to = least-of (b .low) (minusLnA2 .low) (h .to) (≤q-trans le (second-below known .to));
-      } in
+      let t = second-below known in
+      let to = extremes (λ k. P ≤q units (subℕ 0 k)) (b .low) (minusLnA2 .low) (h .to) (≤q-trans le (t .to)) .0 in
+      let p : Lies P 0 (b .high) 0 (max (b .low) (minusLnA2 .low)) = record { from = h .from; to = to } in
       not-below (lies-wider (lies-difference p (first-below known)) (minusLnA1 .low) (b .high) (minusLnA1 .high)
       (max (b .low) (minusLnA2 .low)) (omega arith) (omega arith)) (above-zero lt)
 
-  cubic-held : {z c' d' : Fraction} {e : Ends} → Held z e → Held c' cOver → Held d' dOver →
-      Held (c' *q (z *q z) +q d' *q (z *q z *q z)) (cubicOf e)
-  unfolding cubicOf
-  cubic-held p i j =
-      let square = product-held p p in
-      sum-held (product-held i square) (product-held j (product-held square p))
-
   -- above ln 0.09
-  straight-held : σ .lnAt 9 100 <q P → Held (κ +q (P -q σ .lnAt 1 10)) (straightOf b)
+  straight-held : σ .lnAt 9 100 <q P → Held (σ .lnAt 10 6 +q (P -q σ .lnAt 1 10)) (straightOf b)
   unfolding straightOf
   straight-held lt =
-      let p : Lies P 0 (min (b .high) (minusLnA2 .high)) 0 (b .low) = record {
-        from = most-of (b .high) (minusLnA2 .high) (h .from) (≤q-trans (second-below known .from) (<q-≤q lt));
-        to = h .to;
-      } in
-      let o = passes h (second-below known) lt in
+      let t = second-below known in
+      let from = ≤q-trans (t .from) (<q-≤q lt) in
+      let from = extremes (λ k. units (subℕ 0 k) ≤q P) (b .high) (minusLnA2 .high) (h .from) from .1 in
+      let p : Lies P 0 (min (b .high) (minusLnA2 .high)) 0 (b .low) = record { from = from; to = h .to } in
+      let o = passes h t lt in
       lies-wider (lies-sum (low-held known) (lies-difference p (ten-below known))) _ 0 _ 0 (omega arith) (omega arith)
 
 -- ---- the nonlinear part is β (−κ + θ)
@@ -137,8 +112,7 @@ product-lies {β} {κ} {θ} h low curve =
     let ν = lies-negated h in
     lies-same (≈q-sym (mul-add β (negQ κ) θ)) (lies-wider
     (lies-sum (lies-same (≈q-sym (neg-swap β κ)) (product-held ν low))
-    (lies-same (neg-twice β θ) (lies-negated (product-held ν curve))))
-    _ _ _ _ (omega arith) (omega arith))
+    (lies-same (neg-twice β θ) (lies-negated (product-held ν curve)))) _ _ _ _ (omega arith) (omega arith))
 
 -- c and d are β times what they are over the slope
 module _ (β w x r : Fraction) where
@@ -185,17 +159,15 @@ module _ {σ : Points} (known : Known σ) (slope p : Formula) {n b : Ends} (h : 
 
   -- up to ln 0.09
   transition-lies : σ .lnAt 3 100 <q P → P ≤q σ .lnAt 9 100 → LiesIn (value σ (transition slope p)) (own (curveOf b))
-  unfolding value transition c d Δx Δy _/q_ curveOf
+  unfolding value transition c d Δx Δy _/q_ cubicOf curveOf
   transition-lies lt le =
-      let z : Fraction = P -q σ .lnAt 3 100 in
-      let w : Fraction = σ .lnAt 15 10 in
-      let l : Fraction = σ .lnAt 3 1 in
+      let z = z-held known k lt le in
+      let square = product-held z z in
       lies-same (≈q-trans (add-cong low-same (≈q-refl _))
-      (gathered β (negQ (σ .lnAt 10 6)) _ _ (z *q z) (z *q z *q z) (c-over β w l (recipQ (l *q l)) (pos 3 over 1))
-      (d-over β w l (recipQ (l *q l *q l)) (pos 2 over 1) (negℤ (pos 1) over 1)))) (product-lies h (low-held known)
+      (gathered _ _ _ _ _ _ (c-over _ _ _ _ _) (d-over _ _ _ _ _ _))) (product-lies h (low-held known)
       (branch-below b minusLnA1 (exactly 0) _ (passes k (first-below known) lt)
       (branch-from b minusLnA2 _ (straightOf b) (reaches k (second-below known) le)
-      (cubic-held known k (z-held known k lt le) (c-held known) (d-held known)))))
+      (sum-held (product-held (c-held known) square) (product-held (d-held known) (product-held square z))))))
 
   -- above
   high-lies : σ .lnAt 3 100 <q P → σ .lnAt 9 100 <q P → LiesIn (value σ (highPart slope p)) (own (curveOf b))
@@ -211,8 +183,7 @@ module _ {σ : Points} (known : Known σ) (slope p : Formula) {n b : Ends} (h : 
   nonlinear-lies = go (leQ P (σ .lnAt 3 100)) (leQ P (σ .lnAt 9 100)) refl refl
     where
       go : (i j : Bool) → leQ P (σ .lnAt 3 100) ≡ i → leQ P (σ .lnAt 9 100) ≡ j →
-          LiesIn (cond i (value σ (lowPart slope)) (cond j (value σ (transition slope p)) (value σ (highPart slope p))))
-          (own (curveOf b))
-      go true j ei ej = low-lies record { le = rw ei tt }
-      go false true ei ej = transition-lies record { lt = rw ei tt } record { le = rw ej tt }
-      go false false ei ej = high-lies record { lt = rw ei tt } record { lt = rw ej tt }
+          LiesIn (value σ (nonlinearPart slope p)) (own (curveOf b))
+      go true j ei ej = rw ei (low-lies record { le = rw ei tt })
+      go false true ei ej = rw (ei, ej) (transition-lies record { lt = rw ei tt } record { le = rw ej tt })
+      go false false ei ej = rw (ei, ej) (high-lies record { lt = rw ei tt } record { lt = rw ej tt })

@@ -1,5 +1,6 @@
 pub mod Rows
 pub mod Constants
+pub mod Magnitudes
 pub mod RockSizes
 pub mod RockLaws
 pub mod SiteLaws
@@ -9,3 +10,4 @@ pub mod Laws
 pub mod Sums
 pub mod Thresholds
 pub mod Accepted
+pub mod Ranges

@@ -1,13 +1,13 @@
 -- The motion on rock lies where the evaluation has it.
 use mathlib.Core.Path.{_≡_, refl}
 use mathlib.Core.Bool.{Bool, true, false, cond}
-use Prim.Native.Nat.{ℕ, suc, _+_, _*_, _-_, _/_, _≤_, _<_}
+use Prim.Native.Nat.{ℕ, suc, _+_, _*_, _-_, _≤_, _<_}
 use native.Mathlib.Omega.{arith}
 use borrow.Author.Tests.{leb-true, leb-false, le-leb, lt-leb}
 use lib.Dec.{eqb, leb}
 use lib.IntN.{pos}
 use Rattle.toolbox_theory.specs.Whole.{up, down}
-use Rattle.exact_theory.specs.Fraction.{Fraction, _over_, leQ, _+q_, negQ, _-q_, _*q_, _/q_, flip, recipQ}
+use Rattle.exact_theory.specs.Fraction.{Fraction, _over_, leQ, _-q_, _*q_, _/q_, flip, recipQ}
 use Rattle.exact_theory.specs.Pair.{_∈_}
 use Rattle.exact_theory.specs.Formula.{ln, lnQ}
 use Rattle.exact_theory.specs.Root.{rootValues}
@@ -17,48 +17,39 @@ use Rattle.exact_theory.proofs.FractionLaws.{between-high, ≈q-sym}
 use Rattle.exact_theory.proofs.AlgebraLaws.{mul-assoc, mul-add, written}
 use Rattle.exact_theory.proofs.Points.{Points, value, lnQ-is}
 use Rattle.exact_theory.proofs.UnitLaws.{Lies, units-Is, lies-natural, lies-same, lies-wider, lies-stated, lies-sum}
+use Rattle.interval_theory.specs.Natural.{multipleOf, sumOf}
+use Rattle.interval_theory.proofs.NaturalValues.{Held, HeldBelow, minus-held}
+use Rattle.interval_theory.proofs.SignedValues.{LiesIn}
 use Rattle.logarithm_theory.specs.Promise.{rootFineness}
-use Rattle.logarithm_theory.specs.Evaluation.{rootOf}
+use Rattle.logarithm_theory.specs.Evaluation.{lnOf, rootOf}
 use Rattle.logarithm_theory.proofs.Enclosure.{Known}
-use Rattle.outward_theory.specs.Evaluation.{multipleOf, sumOf}
-use Rattle.outward_theory.proofs.Laws.{Held, HeldBelow, minus-held}
-use Rattle.boore_atkinson_theory.specs.declared.SignedPair.{SignedPair}
+use Rattle.scenario_theory.specs.Rows.{rowCount}
 use Rattle.boore_atkinson_theory.specs.declared.Exact.{Exact}
-use Rattle.boore_atkinson_theory.specs.Tables.{DistanceScaling, Mref, Rref, MagnitudeScaling, Row}
-use Rattle.boore_atkinson_theory.specs.Rock.{sumOfSquares, R, lnROverRref}
-use Rattle.boore_atkinson_theory.specs.Rock.{geometricSpreading, distanceTerm, e, magnitudeTerm, onRock}
-use Rattle.boore_atkinson_theory.specs.Rows.{distanceParts, magnitudeParts, DistanceSigns, MagnitudeSigns}
+use Rattle.boore_atkinson_theory.specs.Tables.{DistanceScaling, Mref, Rref, MagnitudeScaling}
+use Rattle.boore_atkinson_theory.specs.Rock.{sumOfSquares, R, lnROverRref, geometricSpreading, distanceTerm, e}
+use Rattle.boore_atkinson_theory.specs.Rock.{magnitudeTerm, onRock}
+use Rattle.boore_atkinson_theory.specs.Rows.{rowAt, distanceParts, magnitudeParts, DistanceSigns, MagnitudeSigns}
+use Rattle.boore_atkinson_theory.proofs.Rows.{distance-limits, magnitude-limits}
 use Rattle.boore_atkinson_theory.specs.Evaluation.{kmOf, effectiveOf, spreadOf, fallOf, levelOf, magnitudeOf}
-use Rattle.boore_atkinson_theory.specs.Evaluation.{rockOf, plusOf}
-use Rattle.boore_atkinson_theory.proofs.RockSizes.{spread-bounds, Squares, squares, effective-domain}
-
--- x is something between gain's ends less something between loss's
-abbrev pub LiesIn : Fraction → SignedPair → Type 0
-LiesIn x a = Lies x (a .gain .low) (a .loss .high) (a .gain .high) (a .loss .low)
-
-pub plus-lies : {x y : Fraction} {a b : SignedPair} → LiesIn x a → LiesIn y b → LiesIn (x +q y) (plusOf a b)
-unfolding plusOf sumOf
-plus-lies h k = lies-sum h k
+use Rattle.boore_atkinson_theory.specs.Evaluation.{rockOf}
+use Rattle.boore_atkinson_theory.proofs.RockSizes.{spread-bounds, squares, effective-domain}
 
 -- ---- R
 
-module _ {w : Fraction} (k : ℕ) (h : w ∈ rootValues rootFineness k) where
-  -- w lies from k to k + 1 over the root's fineness, and R is w over 100
-  pub km-held : Held (pos 1 over 100 *q w) (kmOf k)
-  unfolding kmOf rootValues up down
-  km-held =
-      let hundredth = over-Is (pos 1) 100 (omega arith) in
-      let low = mul-Is hundredth (over-Is (pos k) rootFineness (omega arith)) in
-      let high = mul-Is hundredth (over-Is (pos (suc k)) rootFineness (omega arith)) in
-      let m = mul-between-right (pos 1 over 100) (upward (h .from) (h .to)) in
-      record {
-        from =
-            between-low m (le-of (units-Is (k * 78_125 / 1_024) 0) low (omega arith))
-            (le-of (units-Is (k * 78_125 / 1_024) 0) high (omega arith));
-        to =
-            between-high m (le-of low (units-Is ((k + 1) * 78_125 / 1_024 + 1) 0) (omega arith))
-            (le-of high (units-Is ((k + 1) * 78_125 / 1_024 + 1) 0) (omega arith));
-      }
+-- w lies from k to k + 1 over the root's fineness, and R is w over 100
+km-held : {w : Fraction} (k : ℕ) → w ∈ rootValues rootFineness k → Held (pos 1 over 100 *q w) (kmOf k)
+unfolding kmOf rootValues up down
+km-held k h =
+    let hundredth = over-Is (pos 1) 100 (omega arith) in
+    let low = mul-Is hundredth (over-Is (pos k) rootFineness (omega arith)) in
+    let high = mul-Is hundredth (over-Is (pos (suc k)) rootFineness (omega arith)) in
+    let m = mul-between-right (pos 1 over 100) (upward (h .from) (h .to)) in
+    let from = units-Is (kmOf k .low) 0 in
+    let to = units-Is (kmOf k .high) 0 in
+    record {
+      from = between-low m (le-of from low (omega arith)) (le-of from high (omega arith));
+      to = between-high m (le-of low to (omega arith)) (le-of high to (omega arith));
+    }
 
 -- M
 abbrev M : ℕ → Fraction
@@ -93,51 +84,27 @@ module _ (r : DistanceScaling) (l : DistanceSigns r) {m : ℕ} (least : 500 ≤ 
       let b = spread-bounds (l .sizes) most in
       let i =
       mul-Is (add-Is (num-below (r .c1) (l .c1-decimals) (l .c1-below))
-      (mul-Is (num-Is (r .c2) (l .c2-decimals)) (away-Is least)))
-      (over-Is (pos 1) 2 (omega arith)) in
-      record { value = omega (arith, i .value, b .order); scale = omega (arith, i .scale) }
+      (mul-Is (num-Is (r .c2) (l .c2-decimals)) (away-Is least))) (over-Is (pos 1) 2 (omega arith)) in
+      omega (arith, i, b .order)
 
-  module _ {σ : Points} (known : Known σ) {d : ℕ} (near : d ≤ 19_999) where
-    fits : Squares d (r .h)
-    fits = squares near (l .sizes .shallow) (l .sizes .deep)
-
-    -- (c1 + c2 (M − Mref)) ln R
-    spreading-held :
-        HeldBelow (geometricSpreading r (M m) *q (pos 1 over 2 *q σ .lnAt (sumOfSquares d (r .h)) 10_000))
-        (multipleOf spread (effectiveOf d (r .h) .ln))
-    unfolding effectiveOf
-    spreading-held =
-        lies-same (≈q-sym (mul-assoc (geometricSpreading r (M m)) (pos 1 over 2)
-        (σ .lnAt (sumOfSquares d (r .h)) 10_000)))
-        (minus-held (1_000_000 * spread) 20_000_000_000_000 spread (omega arith)
-        (lies-natural _ _ (known .ln-within (effective-domain fits))) spread-Is)
-
-    -- c3 R
-    anelastic-held : HeldBelow (r .c3 *q (pos 1 over 100 *q σ .rootAt (sumOfSquares d (r .h))))
-        (multipleOf (200 * down (r .c3 .num)) (effectiveOf d (r .h) .km))
-    unfolding effectiveOf
-    anelastic-held =
-        minus-held (down (r .c3 .num)) 100_000 (200 * down (r .c3 .num)) (omega arith)
-        (km-held (rootOf (sumOfSquares d (r .h))) (known .root-within (sumOfSquares d (r .h))))
-        (num-below (r .c3) (l .c3-decimals) (l .c3-below))
-
-    -- −c3 Rref
-    pegged : Lies (r .c3 *q negQ Rref) (10_000 * down (r .c3 .num)) 0
-        (10_000 * down (r .c3 .num)) 0
-    unfolding up down
-    pegged =
-        lies-stated (mul-Is (num-below (r .c3) (l .c3-decimals) (l .c3-below))
-        (neg-Is (over-Is (pos 1) 1 (omega arith)))) (10_000 * down (r .c3 .num)) 0 (omega arith)
-
-    distance-lies :
-        let f = fallOf (distanceParts r) m (effectiveOf d (r .h)) in
-        let gain : ℕ = 10_000 * down (r .c3 .num) in
-        Lies (value σ (distanceTerm r (M m) d)) gain (f .high) gain (f .low)
-    unfolding value distanceTerm lnROverRref R fallOf sumOf _-q_
-    distance-lies =
-        rw (distance-ln (sumOfSquares d (r .h))) (lies-wider (lies-sum spreading-held
-        (lies-same (≈q-sym (mul-add (r .c3) (pos 1 over 100 *q σ .rootAt (sumOfSquares d (r .h)))
-        (negQ Rref))) (lies-sum anelastic-held pegged))) _ _ _ _ (omega arith) (omega arith))
+  -- (c1 + c2 (M − Mref)) ln R, c3 R, and −c3 Rref
+  distance-lies : {σ : Points} → Known σ → {d : ℕ} → d ≤ 19_999 →
+      let f = fallOf (distanceParts r) m (effectiveOf d (r .h)) in
+      let gain : ℕ = 10_000 * down (r .c3 .num) in
+      Lies (value σ (distanceTerm r (M m) d)) gain (f .high) gain (f .low)
+  unfolding value distanceTerm lnROverRref R fallOf sumOf effectiveOf _-q_ up down
+  distance-lies known {d} near =
+      let X = sumOfSquares d (r .h) in
+      let X-domain = effective-domain (squares near (l .sizes .shallow) (l .sizes .deep)) in
+      let c3-Is = num-below (r .c3) (l .c3-decimals) (l .c3-below) in
+      let spreading : HeldBelow _ (multipleOf spread (lnOf X 10_000)) =
+      minus-held _ _ spread (omega arith) (lies-natural _ _ (known .ln-within X-domain)) spread-Is in
+      let anelastic =
+      minus-held _ _ (200 * down (r .c3 .num)) (omega arith) (km-held (rootOf X) (known .root-within X)) c3-Is in
+      let minus-one = neg-Is (over-Is (pos 1) 1 (omega arith)) in
+      let pegged = lies-stated (mul-Is c3-Is minus-one) (10_000 * down (r .c3 .num)) 0 (omega arith) in
+      rw (distance-ln X) (lies-wider (lies-sum (lies-same (≈q-sym (mul-assoc _ _ _)) spreading)
+      (lies-same (≈q-sym (mul-add _ _ _)) (lies-sum anelastic pegged))) _ _ _ _ (omega arith) (omega arith))
 
 -- ---- the magnitude term
 
@@ -156,8 +123,7 @@ level-lies : (r : MagnitudeScaling) → MagnitudeSigns r → (mechanism : ℕ) �
 unfolding e levelOf
 level-lies r l mechanism = go (eqb mechanism 9) (eqb mechanism 0) (eqb mechanism 1)
   where
-    go : (a b c : Bool) →
-        ExactLies (cond a (r .e1) (cond b (r .e2) (cond c (r .e3) (r .e4))))
+    go : (a b c : Bool) → ExactLies (cond a (r .e1) (cond b (r .e2) (cond c (r .e3) (r .e4))))
         (cond a (printed (r .e1)) (cond b (printed (r .e2)) (cond c (printed (r .e3)) (printed (r .e4)))))
     go true b c = printed-lies (l .e1-decimals)
     go false true c = printed-lies (l .e2-decimals)
@@ -179,67 +145,40 @@ module _ (r : MagnitudeScaling) (l : MagnitudeSigns r) (m : ℕ) where
   unfolding _-q_
   away-at = add-Is (M-Is m) (neg-Is hinge-Is)
 
-  under-Is : m ≤ hinge → Is away 0 (100 * (hinge - m)) 10_000
-  under-Is h = record { value = omega (arith, away-at .value); scale = omega (arith, away-at .scale) }
-
-  over-Mh : hinge < m → Is away (100 * (m - hinge)) 0 10_000
-  over-Mh h = record { value = omega (arith, away-at .value); scale = omega (arith, away-at .scale) }
-
-  -- e5 (M − Mh) and e6 (M − Mh)² up to the hinge, e7 (M − Mh) above
-  slope-lies : m ≤ hinge →
-      let loss : ℕ = 100 * (up (r .e5 .num) * (hinge - m)) in
-      Lies (r .e5 *q away) 0 loss 0 loss
-  slope-lies h = lies-stated (mul-Is (num-above (r .e5) (l .e5-decimals) (l .e5-above)) (under-Is h)) _ _ (omega arith)
-
-  bow-lies : m ≤ hinge →
-      let loss : ℕ = down (r .e6 .num) * ((hinge - m) * (hinge - m)) in
-      Lies (r .e6 *q (away *q away)) 0 loss 0 loss
-  bow-lies h =
-      lies-stated (mul-Is (num-below (r .e6) (l .e6-decimals) (l .e6-below)) (mul-Is (under-Is h) (under-Is h))) _ _
-      (omega arith)
-
-  rise-lies : hinge < m →
-      let gain : ℕ = 100 * (up (r .e7 .num) * (m - hinge)) in
-      Lies (r .e7 *q away) gain 0 gain 0
-  rise-lies h = lies-stated (mul-Is (num-above (r .e7) (l .e7-decimals) (l .e7-above)) (over-Mh h)) _ _ (omega arith)
-
   -- M is up to Mh where its hundredths are
   up-to : (c : Bool) → leQ (M m) (r .Mh) ≡ c → leb m hinge ≡ c
   up-to true e = le-leb m hinge (omega (arith, le-as (M-Is m) hinge-Is (record { le = rw e tt })))
   up-to false e = lt-leb m hinge (omega (arith, lt-as hinge-Is (M-Is m) (record { lt = rw e tt })))
 
+  -- e, with e5 (M − Mh) and e6 (M − Mh)² up to the hinge, and with e7 (M − Mh) above
   magnitude-lies : (mechanism : ℕ) → ExactLies (magnitudeTerm r (M m) mechanism)
       (magnitudeOf (magnitudeParts r) m mechanism)
   unfolding magnitudeTerm magnitudeOf
   magnitude-lies mechanism = go (leQ (M m) (r .Mh)) refl
     where
-      go : (c : Bool) → leQ (M m) (r .Mh) ≡ c →
-          let x : Exact = levelOf (magnitudeParts r) mechanism in
-          ExactLies (cond c
-          (e r mechanism +q r .e5 *q away +q r .e6 *q (away *q away)) (e r mechanism +q r .e7 *q away))
-          (cond (leb m hinge)
-          record {
-            gain = x .gain;
-            loss = x .loss + 100 * (up (r .e5 .num) * (hinge - m)) + down (r .e6 .num) * ((hinge - m) * (hinge - m));
-          }
-          record { gain = x .gain + 100 * (up (r .e7 .num) * (m - hinge)); loss = x .loss })
+      go : (c : Bool) → leQ (M m) (r .Mh) ≡ c → ExactLies (magnitudeTerm r (M m) mechanism)
+          (magnitudeOf (magnitudeParts r) m mechanism)
       go true c =
-          let h = leb-true m hinge (up-to true c) in
-          rw (up-to true c) (lies-wider (lies-sum (lies-sum (level-lies r l mechanism) (slope-lies h)) (bow-lies h))
+          let i : Is away 0 (100 * (hinge - m)) 10_000 = omega (arith, away-at, leb-true m hinge (up-to true c)) in
+          let slope = mul-Is (num-above (r .e5) (l .e5-decimals) (l .e5-above)) i in
+          let bow = mul-Is (num-below (r .e6) (l .e6-decimals) (l .e6-below)) (mul-Is i i) in
+          rw (c, up-to true c) (lies-wider (lies-sum (lies-sum (level-lies r l mechanism)
+          (lies-stated slope 0 (100 * (up (r .e5 .num) * (hinge - m))) (omega arith)))
+          (lies-stated bow 0 (down (r .e6 .num) * ((hinge - m) * (hinge - m))) (omega arith)))
           _ _ _ _ (omega arith) (omega arith))
       go false c =
-          let h = leb-false m hinge (up-to false c) in
-          rw (up-to false c) (lies-wider (lies-sum (level-lies r l mechanism) (rise-lies h)) _ _ _ _ (omega arith)
-          (omega arith))
+          let i : Is away (100 * (m - hinge)) 0 10_000 = omega (arith, away-at, leb-false m hinge (up-to false c)) in
+          let rise = mul-Is (num-above (r .e7) (l .e7-decimals) (l .e7-above)) i in
+          rw (c, up-to false c) (lies-wider (lies-sum (level-lies r l mechanism)
+          (lies-stated rise (100 * (up (r .e7 .num) * (m - hinge))) 0 (omega arith)))
+          _ _ _ _ (omega arith) (omega arith))
 
--- ---- the motion on rock
+-- ---- the motion on rock, by any row of the tables
 
-module _ (r : Row) (l : DistanceSigns (r .distance)) (k : MagnitudeSigns (r .magnitude)) {m : ℕ} (least : 500 ≤ m)
-    (most : m ≤ 800) where
-  pub rock-lies : {σ : Points} → Known σ → {d : ℕ} → d ≤ 19_999 → (mechanism : ℕ) →
-      LiesIn (value σ (onRock r m d mechanism)) (rockOf (distanceParts (r .distance)) (magnitudeParts (r .magnitude)) m
-      (effectiveOf d (r .distance .h)) mechanism)
-  unfolding value onRock rockOf
-  rock-lies known near mechanism =
-      lies-wider (lies-sum (distance-lies (r .distance) l least most known near)
-      (magnitude-lies (r .magnitude) k m mechanism)) _ _ _ _ (omega arith) (omega arith)
+pub rock-lies : {m d : ℕ} (k mechanism : ℕ) → k < rowCount → 500 ≤ m → m ≤ 800 → d ≤ 19_999 → {σ : Points} → Known σ →
+    LiesIn (value σ (onRock (rowAt k) m d mechanism)) (rockOf (distanceParts (rowAt k .distance))
+    (magnitudeParts (rowAt k .magnitude)) m (effectiveOf d (rowAt k .distance .h)) mechanism)
+unfolding value onRock rockOf
+rock-lies k mechanism row least most near known =
+    lies-wider (lies-sum (distance-lies (rowAt k .distance) (distance-limits k row) least most known near)
+    (magnitude-lies (rowAt k .magnitude) (magnitude-limits k row) _ mechanism)) _ _ _ _ (omega arith) (omega arith)

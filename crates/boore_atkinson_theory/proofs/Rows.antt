@@ -8,7 +8,7 @@ use native.Mathlib.Omega.{arith}
 use lib.ListN.{getD}
 use Rattle.toolbox_theory.specs.Whole.{up, down}
 use Rattle.toolbox_theory.specs.Lists.{among, lookup}
-use Rattle.toolbox_theory.proofs.Tests.{AllLe, equal, WithinLimits, row-within}
+use Rattle.toolbox_theory.proofs.Tests.{equal, row-within}
 use Rattle.toolbox_theory.proofs.ListLaws.{lookup-at, lookup-key}
 use Rattle.exact_theory.specs.Fraction.{_over_}
 use Rattle.scenario_theory.specs.Refusal.{booreAtkinson}
@@ -51,106 +51,23 @@ totalLimits r =
     (up (r .σTU .num), 1_000) ∷ (up (r .σTM .num), 1_000) ∷ (down (r .σTU .num), 0) ∷ (down (r .σTM .num), 0) ∷
     equal ((r .σTU .den, 1_000) ∷ (r .σTM .den, 1_000) ∷ [])
 
-site-signs : (r : SiteAmplification) → AllLe (siteLimits r) → SiteSigns r
-site-signs r h = record {
-  sizes = record { blin = omega arith; b1 = omega arith; b2 = omega arith; order = omega arith; apart = omega arith };
-  blin-below = omega arith;
-  b1-below = omega arith;
-  b2-below = omega arith;
-  blin-decimals = omega arith;
-  b1-decimals = omega arith;
-  b2-decimals = omega arith;
-}
-
-distance-signs : (r : DistanceScaling) → AllLe (distanceLimits r) → DistanceSigns r
-distance-signs r h = record {
-  sizes = record {
-    spread-least = omega arith;
-    spread-most = omega arith;
-    c3 = omega arith;
-    shallow = omega arith;
-    deep = omega arith;
-  };
-  c1-below = omega arith;
-  c3-below = omega arith;
-  c1-decimals = omega arith;
-  c2-decimals = omega arith;
-  c3-decimals = omega arith;
-}
-
-magnitude-signs : (r : MagnitudeScaling) → AllLe (magnitudeLimits r) → MagnitudeSigns r
-magnitude-signs r h = record {
-  sizes = record {
-    e1-gain = omega arith;
-    e1-loss = omega arith;
-    e2-gain = omega arith;
-    e2-loss = omega arith;
-    e3-gain = omega arith;
-    e3-loss = omega arith;
-    e4-gain = omega arith;
-    e4-loss = omega arith;
-    e5 = omega arith;
-    e6 = omega arith;
-    e7 = omega arith;
-    hinge = omega arith;
-  };
-  e5-above = omega arith;
-  e6-below = omega arith;
-  e7-above = omega arith;
-  Mh-above = omega arith;
-  e1-decimals = omega arith;
-  e2-decimals = omega arith;
-  e3-decimals = omega arith;
-  e4-decimals = omega arith;
-  e5-decimals = omega arith;
-  e6-decimals = omega arith;
-  e7-decimals = omega arith;
-  Mh-decimals = omega arith;
-}
-
-total-signs : (r : Total) → AllLe (totalLimits r) → TotalSigns r
-total-signs r h = record {
-  unspecified = omega arith;
-  specified = omega arith;
-  unspecified-above = omega arith;
-  specified-above = omega arith;
-  unspecified-decimals = omega arith;
-  specified-decimals = omega arith;
-}
-
 -- ---- one test over each table
 
-table3-within : WithinLimits siteLimits table3
-unfolding up down _over_
-table3-within = tt
-
-table6-within : WithinLimits distanceLimits table6
-unfolding up down _over_
-table6-within = tt
-
-table7-within : WithinLimits magnitudeLimits table7
-unfolding up down _over_
-table7-within = tt
-
-table8-within : WithinLimits totalLimits table8
-unfolding up down _over_
-table8-within = tt
-
 pub site-limits : (k : ℕ) → k < rowCount → SiteSigns (rowAt k .site)
-unfolding rowAt
-site-limits k h = site-signs _ (row-within siteLimits _ table3 table3-within k h)
+unfolding rowAt up down _over_
+site-limits k h = omega (arith, row-within siteLimits (noRow .site) table3 tt k h)
 
 pub distance-limits : (k : ℕ) → k < rowCount → DistanceSigns (rowAt k .distance)
-unfolding rowAt
-distance-limits k h = distance-signs _ (row-within distanceLimits _ table6 table6-within k h)
+unfolding rowAt up down _over_
+distance-limits k h = omega (arith, row-within distanceLimits (noRow .distance) table6 tt k h)
 
 pub magnitude-limits : (k : ℕ) → k < rowCount → MagnitudeSigns (rowAt k .magnitude)
-unfolding rowAt
-magnitude-limits k h = magnitude-signs _ (row-within magnitudeLimits _ table7 table7-within k h)
+unfolding rowAt up down _over_
+magnitude-limits k h = omega (arith, row-within magnitudeLimits (noRow .magnitude) table7 tt k h)
 
 pub total-limits : (k : ℕ) → k < rowCount → TotalSigns (totalAt k)
-unfolding totalAt
-total-limits k h = total-signs _ (row-within totalLimits _ table8 table8-within k h)
+unfolding totalAt up down _over_
+total-limits k h = omega (arith, row-within totalLimits noTotal table8 tt k h)
 
 -- ---- the rows for a period are those in the place that the code looks up
 
@@ -166,12 +83,9 @@ module _ {A : Type 0} (key : A → ℕ) (none : A) (rows : List A) (same : map k
 pub row-at : (period : ℕ) → rowFor period ≡ rowAt (booreAtkinsonRow period)
 unfolding rowFor rowAt
 row-at period =
-    rw (
-      in-place (λ r. r .period) (noRow .site) table3 refl period,
-      in-place (λ r. r .period) (noRow .distance) table6
-          refl period,
-      in-place (λ r. r .period) (noRow .magnitude) table7 refl period,
-    ) refl
+    rw (in-place (λ r. r .period) (noRow .site) table3 refl period)
+    (rw (in-place (λ r. r .period) (noRow .distance) table6 refl period)
+    (rw (in-place (λ r. r .period) (noRow .magnitude) table7 refl period)))
 
 pub total-at : (period : ℕ) → totalFor period ≡ totalAt (booreAtkinsonRow period)
 unfolding totalFor totalAt

@@ -1,7 +1,7 @@
 -- The site term's constant pairs, in units of 10^-9. proofs/Constants shows, by one computed
 -- test, that they hold what they stand for.
 use Prim.Native.Nat.{ℕ}
-use Rattle.logarithm_theory.specs.declared.Ends.{Ends}
+use Rattle.interval_theory.specs.declared.Ends.{Ends}
 
 abbrev pair : ℕ → ℕ → Ends
 pair low high = record { low = low; high = high }

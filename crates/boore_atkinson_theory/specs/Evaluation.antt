@@ -3,12 +3,12 @@
 use mathlib.Core.Bool.{cond}
 use Prim.Native.Nat.{ℕ, _+_, _*_, _-_, _/_, min, max}
 use lib.Dec.{eqb, leb, ltb}
-use Rattle.signed_theory.specs.declared.Ends as signed
-use Rattle.signed_theory.specs.Evaluation.{betweenOf}
-use Rattle.logarithm_theory.specs.declared.Ends.{Ends}
+use Rattle.interval_theory.specs.declared.SignedEnds.{SignedEnds}
+use Rattle.interval_theory.specs.declared.Ends.{Ends}
+use Rattle.interval_theory.specs.declared.SignedPair.{SignedPair}
+use Rattle.interval_theory.specs.Signed.{endsOf, plusOf}
+use Rattle.interval_theory.specs.Natural.{exactly, multipleOf, productOf, sumOf, hullOf}
 use Rattle.logarithm_theory.specs.Evaluation.{lnOf, rootOf}
-use Rattle.outward_theory.specs.Evaluation.{multipleOf, productOf, sumOf, spanOf}
-use Rattle.boore_atkinson_theory.specs.declared.SignedPair.{SignedPair}
 use Rattle.boore_atkinson_theory.specs.declared.EffectiveDistance.{EffectiveDistance}
 use Rattle.boore_atkinson_theory.specs.declared.Exact.{Exact}
 use Rattle.boore_atkinson_theory.specs.declared.SiteRow.{SiteRow}
@@ -19,10 +19,6 @@ use Rattle.boore_atkinson_theory.specs.Rows.{pga, siteParts, distancePar
 use Rattle.boore_atkinson_theory.specs.Rock.{sumOfSquares}
 use Rattle.boore_atkinson_theory.specs.Constants.{minusLnLow, minusLnA1, minusLnA2, lnTen, overSlow, overFast}
 use Rattle.boore_atkinson_theory.specs.Constants.{cOver, dOver}
-
--- equal ends
-abbrev pub exactly : ℕ → Ends
-exactly n = record { low = n; high = n }
 
 -- ---- on rock
 
@@ -121,7 +117,7 @@ straightOf b = record {
 
 -- A where −p, which lies in b, is from t on, B where it is below t, and both where either may be
 unfoldable pub branchOf : Ends → Ends → Ends → Ends → Ends
-branchOf b t A B = cond (leb (t .low) (b .high)) (cond (ltb (b .low) (t .high)) (spanOf A B) A) B
+branchOf b t A B = cond (leb (t .low) (b .high)) (cond (ltb (b .low) (t .high)) (hullOf A B) A) B
 
 -- what the nonlinear part has beside bnl ln(0.06/0.1), over the slope
 unfoldable pub curveOf : Ends → Ends
@@ -139,26 +135,28 @@ flatFrom = Vref
 unfoldable pub minusPFor : ℕ → ℕ → ℕ → ℕ → Ends
 minusPFor v m d mechanism = cond (leb flatFrom v) (exactly 0) (minusPOf m d mechanism)
 
--- ---- sums
+-- ---- the median as a gain less a loss, and the ends
 
-unfoldable pub endsOf : SignedPair → signed.Ends
-endsOf a = betweenOf (a .gain .low) (a .loss .high) (a .gain .high) (a .loss .low)
-
-unfoldable pub plusOf : SignedPair → SignedPair → SignedPair
-plusOf a b = record { gain = sumOf (a .gain) (b .gain); loss = sumOf (a .loss) (b .loss) }
-
-unfoldable pub medianOf : Row → ℕ → ℕ → ℕ → ℕ → signed.Ends
-medianOf r m d v mechanism =
+unfoldable pub medianPairOf : Row → ℕ → ℕ → ℕ → ℕ → SignedPair
+medianPairOf r m d v mechanism =
     let rock : SignedPair =
     rockOf (distanceParts (r .distance)) (magnitudeParts (r .magnitude)) m
     (effectiveOf d (r .distance .h)) mechanism in
     let s : SiteRow = siteParts (r .site) in
-    endsOf (plusOf (plusOf rock (linearOf s v)) (nonlinearOf s v (minusPOf m d mechanism)))
+    plusOf (plusOf rock (linearOf s v)) (nonlinearOf s v (minusPOf m d mechanism))
 
-unfoldable pub nonlinearEndsOf : SiteAmplification → ℕ → Ends → signed.Ends
+unfoldable pub medianOf : Row → ℕ → ℕ → ℕ → ℕ → SignedEnds
+medianOf r m d v mechanism = endsOf (medianPairOf r m d v mechanism)
+
+unfoldable pub nonlinearEndsOf : SiteAmplification → ℕ → Ends → SignedEnds
 nonlinearEndsOf s v b = endsOf (nonlinearOf (siteParts s) v b)
 
-unfoldable pub sigmaOf : Total → ℕ → signed.Ends
-sigmaOf t mechanism =
-    let z : ℕ = 1_000_000 * cond (eqb mechanism 9) (totalParts t .0) (totalParts t .1) in
-    betweenOf z 0 z 0
+unfoldable pub sigmaPairOf : Total → ℕ → SignedPair
+sigmaPairOf t mechanism =
+    record {
+      gain = exactly (1_000_000 * cond (eqb mechanism 9) (totalParts t .0) (totalParts t .1));
+      loss = exactly 0;
+    }
+
+unfoldable pub sigmaOf : Total → ℕ → SignedEnds
+sigmaOf t mechanism = endsOf (sigmaPairOf t mechanism)

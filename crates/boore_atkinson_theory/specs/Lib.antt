@@ -8,3 +8,4 @@ pub mod Rows
 pub mod Evaluation
 pub mod Promise
 pub mod Sizes
+pub mod Ranges

@@ -7,9 +7,9 @@ use lib.Signed.{_≤ℤ_}
 use Rattle.exact_theory.specs.Fraction.{Fraction}
 use Rattle.exact_theory.specs.Pair.{_∈_}
 use Rattle.exact_theory.specs.Formula.{stated, ends, Encloses}
-use Rattle.signed_theory.specs.declared.Ends.{Ends}
-use Rattle.signed_theory.specs.Evaluation.{SmallerThan}
-use Rattle.logarithm_theory.specs.declared.Ends as natural
+use Rattle.interval_theory.specs.declared.SignedEnds.{SignedEnds}
+use Rattle.interval_theory.specs.declared.Ends.{Ends}
+use Rattle.interval_theory.specs.Signed.{SmallerThan}
 use Rattle.scenario_theory.specs.Refusal.{booreAtkinson}
 use Rattle.scenario_theory.specs.Rows.{rowCount}
 use Rattle.boore_atkinson_theory.specs.Tables.{SiteAmplification, Total, Row}
@@ -26,7 +26,7 @@ pub record MedianDomain (k magnitude projectionDistance vs30 : ℕ) : Type 0 whe
   pub fast : vs30 ≤ booreAtkinson .velocity .high
 
 -- the arguments of the nonlinear part: −p lies between the ends of b, so that p is at most 0
-pub record NonlinearDomain (k vs30 : ℕ) (b : natural.Ends) : Type 0 where
+pub record NonlinearDomain (k vs30 : ℕ) (b : Ends) : Type 0 where
   pub row : k < rowCount
   pub slow : booreAtkinson .velocity .low ≤ vs30
   pub fast : vs30 ≤ booreAtkinson .velocity .high
@@ -44,21 +44,21 @@ abbrev pub nonlinearWidth : ℕ
 nonlinearWidth = 42
 
 -- e encloses the median by the row r, at every fineness, is narrow, and has ends that a double equals
-pub record MedianEnds (r : Row) (magnitude projectionDistance vs30 mechanism : ℕ) (e : Ends) : Type 0 where
+pub record MedianEnds (r : Row) (magnitude projectionDistance vs30 mechanism : ℕ) (e : SignedEnds) : Type 0 where
   pub encloses : Encloses (ends (e .low) (e .high)) (median r magnitude projectionDistance vs30 mechanism)
   pub narrow : e .high ≤ℤ (e .low +ℤ pos medianWidth)
   pub small : SmallerThan (2 ^ 53) e
 
 -- e encloses the nonlinear part for every p of a pair, at every fineness, is narrow where p is, and has ends that a
 -- double equals
-pub record NonlinearEnds (s : SiteAmplification) (vs30 : ℕ) (b : natural.Ends) (e : Ends) : Type 0 where
+pub record NonlinearEnds (s : SiteAmplification) (vs30 : ℕ) (b : Ends) (e : SignedEnds) : Type 0 where
   pub encloses : (p : Fraction) → p ∈ ends (negℤ (pos (b .high))) (negℤ (pos (b .low))) →
       Encloses (ends (e .low) (e .high)) (nonlinearPart (bnl s vs30) (stated p))
   pub narrow : b .high ≤ b .low + rockWidth → e .high ≤ℤ (e .low +ℤ pos nonlinearWidth)
   pub small : SmallerThan (2 ^ 53) e
 
 -- e encloses sigma, at every fineness, and has ends that a double equals; "Its two ends are equal"
-pub record SigmaEnds (t : Total) (mechanism : ℕ) (e : Ends) : Type 0 where
+pub record SigmaEnds (t : Total) (mechanism : ℕ) (e : SignedEnds) : Type 0 where
   pub encloses : Encloses (ends (e .low) (e .high)) (sigma t mechanism)
   pub equal : e .high ≡ e .low
   pub small : SmallerThan (2 ^ 53) e

@@ -1,11 +1,5 @@
 // Boore and Atkinson 2008: the tables and equations, what is computed, what is promised, and laws. There is no code.
-use logarithm_theory::Ends;
-
-// Something between the gain's ends, less something between the loss's.
-pub struct SignedPair {
-    pub gain: Ends,
-    pub loss: Ends,
-}
+use interval_theory::Ends;
 
 // The distance R = √(RJB² + h²), by ln R² and by R in km.
 pub struct EffectiveDistance {

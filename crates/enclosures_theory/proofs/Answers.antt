@@ -12,17 +12,17 @@ use mir.Syntax.{w64}
 use mir.Val.{toZ, ofZ, SFits}
 use mir.ValLaws.{toZ-ofZ}
 
--- z is a natural number, the absolute value of y, which is at least so much
-pub record Count (z y : ℤ) (least : ℕ) : Type 0 where
-  pub is : z ≡ pos (natAbs y)
-  pub sign : T (nonNeg y)
-  pub enough : least ≤ natAbs y
+-- z is a natural number, at least and at most so much
+pub record Count (z : ℤ) (least most : ℕ) : Type 0 where
+  pub sign : T (nonNeg z)
+  pub enough : least ≤ natAbs z
+  pub few : natAbs z ≤ most
 
-count-of : (z : ℤ) (least : ℕ) → ltZ z (pos least) ≡ false → Count z z least
-count-of (pos n) least e = record { is = refl; sign = tt; enough = ltb-false n least e }
-count-of (negsuc n) least e = let y : _≡_ {A = ℕ} 0 1 = cc in absurd (omega arith)
+count-of : (z : ℤ) (least most : ℕ) → ltZ z (pos least) ≡ false → ((n : ℕ) → z ≡ pos n → n ≤ most) → Count z least most
+count-of (pos n) least most e h = record { sign = tt; enough = ltb-false n least e; few = h n refl }
+count-of (negsuc n) least most e h = let y : _≡_ {A = ℕ} 0 1 = cc in absurd (omega arith)
 
 -- z, read back from its bits, that is not below so much
-pub count : (z : ℤ) (least : ℕ) → SFits w64 z → ltZ (toZ w64 (ofZ w64 z)) (pos least) ≡ false →
-    Count z (toZ w64 (ofZ w64 z)) least
-count z least f e = rw (toZ-ofZ w64 z f) (count-of z least (rw (toZ-ofZ w64 z f) at e))
+pub count : (z : ℤ) {least most : ℕ} → SFits w64 z → ltZ (toZ w64 (ofZ w64 z)) (pos least) ≡ false →
+    ((n : ℕ) → z ≡ pos n → n ≤ most) → Count (toZ w64 (ofZ w64 z)) least most
+count z {least} {most} f e h = rw (toZ-ofZ w64 z f) (count-of z least most (rw (toZ-ofZ w64 z f) at e) h)

@@ -1,5 +1,5 @@
 -- What is printed after some lines, record by record: the steps that `linesFrom` counts never run out.
-use mathlib.Core.Path.{_≡_, refl, sym, ap, _∙_}
+use mathlib.Core.Path.{_≡_, refl, sym, ap}
 use mathlib.Core.List.{List, [], _∷_, _++_}
 use Prim.Native.Nat.{ℕ, zero, suc, _+_, _≤_, _<_}
 use native.Mathlib.Omega.{arith}
@@ -33,13 +33,9 @@ none-left zero count = refl
 none-left (suc k) count = refl
 
 -- two ways to go on after a record, alike where it is read
-alike : (b : ℕ) (s l m last : List ℕ) → (readRefusal (b ∷ s) ≡ 0 → l ≡ m) →
-    unlessRefused (readRefusal (b ∷ s)) l last ≡ unlessRefused (readRefusal (b ∷ s)) m last
-alike b s l m last same = go (readRefusal (b ∷ s)) same
-  where
-    go : (k : ℕ) → (k ≡ 0 → l ≡ m) → unlessRefused k l last ≡ unlessRefused k m last
-    go zero e = e refl
-    go (suc k) e = refl
+alike : (k : ℕ) {l m : List ℕ} (last : List ℕ) → (k ≡ 0 → l ≡ m) → unlessRefused k l last ≡ unlessRefused k m last
+alike zero last same = same refl
+alike (suc k) last same = refl
 
 -- any two numbers of steps that are enough print the same
 enough : (k j count : ℕ) (s : List ℕ) → length s ≤ k → length s ≤ j → linesFrom k count s ≡ linesFrom j count s
@@ -50,7 +46,7 @@ enough (suc k) j count [] h i = sym (none-left j count)
 enough (suc k) zero count (b ∷ s) h i = absurd (omega arith)
 enough (suc k) (suc j) count (b ∷ s) h i =
     ap (λ (l : List ℕ). ended (lineOf (count + 1) (recordAnswerOf (b ∷ s))) ++ l)
-    (alike b s _ _ (ended (lastLineOf (count + 1))) (λ e.
+    (alike (readRefusal (b ∷ s)) _ (λ e.
     enough k j (count + 1) (restOf (b ∷ s)) (omega (arith, rest-less b s e)) (omega (arith, rest-less b s e))))
 
 -- ---- what is printed after some lines, with no steps counted
@@ -70,7 +66,7 @@ pub lines-step : (count b : ℕ) (bytes : List ℕ) →
 unfolding linesAfter linesFrom
 lines-step count b s =
     ap (λ (l : List ℕ). ended (lineOf (count + 1) (recordAnswerOf (b ∷ s))) ++ l)
-    (alike b s _ _ (ended (lastLineOf (count + 1))) (λ e.
+    (alike (readRefusal (b ∷ s)) _ (λ e.
     enough (length s) (length (restOf (b ∷ s))) (count + 1) (restOf (b ∷ s)) (rest-less b s e) (le-refl _)))
 
 -- ---- the same by what reading answers
@@ -80,14 +76,11 @@ pub one-read : (count : ℕ) (s : List ℕ) (x : Scenario) (n : ℕ) → 0 < len
 one-read count [] x n h e = absurd (omega arith)
 one-read count (b ∷ s) x n h e =
     let r = read-as (b ∷ s) x n e in
-    lines-step count b s ∙ rw (record-as-fields (b ∷ s) x n e, r .number, r .rest) refl
+    rw (lines-step count b s, record-as-fields (b ∷ s) x n e, r .number, r .rest) refl
 
 pub one-refused : (count : ℕ) (s : List ℕ) (j : ℕ) → 0 < length s → readOf s ≡ Refused j →
     linesAfter count s ≡ ended (lineOf (count + 1) (A.Refused j)) ++ ended (lastLineOf (count + 1))
 one-refused count [] j h e = absurd (omega arith)
 one-refused count (b ∷ s) j h e =
-    let last = ended (lastLineOf (count + 1)) in
-    let more = linesAfter (count + 1) (restOf (b ∷ s)) in
     let r = not-read (b ∷ s) j e in
-    lines-step count b s ∙ rw (sym (record-refused (b ∷ s) j e), r .number)
-    (ap (λ (l : List ℕ). ended (lineOf (count + 1) (A.Refused j)) ++ l) (sym (is-refused j more last (r .some))))
+    rw (lines-step count b s, ← record-refused (b ∷ s) j e, r .number, ← is-refused j _ _ (r .some)) refl

@@ -4,17 +4,19 @@ ghost use mathlib.Core.Path.{_≡_};
 ghost use Prim.Native.Nat.{_^_, _<_};
 ghost use lib.IntN.{natAbs};
 ghost use Rattle.scenario_theory.specs.Refusal.{refusalOf};
-ghost use Rattle.scenario_theory.specs.Rows.{idrissRow, booreAtkinsonRow};
+ghost use Rattle.scenario_theory.specs.Rows.{idrissRow, booreAtkinsonRow, Looked};
 ghost use Rattle.record_theory.specs.Outcome.{scenarioIn, readRefusal};
-ghost use Rattle.engine_theory.specs.Promise.{AnswerPromise, DoublesPromise};
-ghost use Rattle.engine_theory.specs.Steps.{Looked, TakenBy};
-ghost use Rattle.engine_theory.specs.Evaluation.{scenarioWith, rowOf, enclosureOf, answerOf, recordAnswerOf};
+ghost use Rattle.engine_theory.specs.Promise.{AnswerPromise, NextPromise, DoublesPromise};
+ghost use Rattle.engine_theory.specs.Steps.{TakenBy};
+ghost use Rattle.engine_theory.specs.Evaluation.{scenarioWith, enclosureOf, answerOf, recordAnswerOf, nextOf};
 ghost use Rattle.engine_theory.specs.Evaluation.{SmallEnclosure, doubleOf, doublesOf, inDoubles};
 pub use engine_theory::Answer;
 pub use engine_theory::Doubles;
 pub use engine_theory::DoublesAnswer;
 pub use engine_theory::Enclosure;
-use record_theory::Reading;
+pub use engine_theory::NextAnswer;
+use record_theory::RowReading;
+use scenario_theory::Check;
 use scenario_theory::Scenario;
 
 fn by_idriss(s: Scenario, k: usize) -> Enclosure
@@ -24,7 +26,7 @@ fn by_idriss(s: Scenario, k: usize) -> Enclosure
     let table_3 = idriss::takes_table_3(s.magnitude);
     Enclosure {
         median: idriss::median(table_3, k, s.magnitude, s.distance, s.velocity, s.mechanism),
-        sigma: idriss::sigma(s.period, s.magnitude),
+        sigma: idriss::sigma(k, s.period, s.magnitude),
     }
 }
 
@@ -38,18 +40,8 @@ fn by_boore_atkinson(s: Scenario, k: usize) -> Enclosure
     }
 }
 
-// The row of a period in the tables of its model.
-fn row(model: u8, period: u16) -> usize
-    ensures { λ r. ⌜ r ≡ rowOf model period ⌝ }
-{
-    if model == 1 {
-        return scenario_rows::idriss_row(period);
-    }
-    scenario_rows::boore_atkinson_row(period)
-}
-
-// By the scenario's own model, k the row of its period. The fields pass in registers, as a struct would be stored and
-// read back; the callers look up the row, where the checks have just looked it up.
+// By the scenario's own model, k the row of its period, which the checks have looked up. The fields pass in registers,
+// as a struct would be stored and read back.
 fn by_model(
     model: u8,
     magnitude: u16,
@@ -81,20 +73,40 @@ pub fn answer_fields(s: Scenario) -> Answer
     ensures { λ r. ⌜ r ≡ answerOf s ⌝ }
     ensures { λ r. ⌜ AnswerPromise (refusalOf s) s r ⌝ }
 {
-    let k = scenario::refusal(s);
-    if k != 0 {
-        return Answer::Refused(k);
+    match scenario::check(s) {
+        Check::Accepted(row) => Answer::Enclosed(by_model(
+            s.model,
+            s.magnitude,
+            s.distance,
+            s.velocity,
+            s.mechanism,
+            s.period,
+            row,
+        )),
+        Check::Refused(k) => Answer::Refused(k),
     }
-    let e = by_model(
-        s.model,
-        s.magnitude,
-        s.distance,
-        s.velocity,
-        s.mechanism,
-        s.period,
-        row(s.model, s.period),
-    );
-    Answer::Enclosed(e)
+}
+
+// Answers the record at the front of any bytes, and says how long it is.
+pub fn answer_next(bytes: &[u8]) -> NextAnswer
+    ensures { λ r. ⌜ r ≡ nextOf (now (bytes .entry)) ⌝ }
+    ensures { λ r. ⌜ NextPromise (now (bytes .entry)) r ⌝ }
+{
+    match record_reading::read_with_row(bytes) {
+        RowReading::Read(s, n, row) => NextAnswer::Enclosed(
+            by_model(
+                s.model,
+                s.magnitude,
+                s.distance,
+                s.velocity,
+                s.mechanism,
+                s.period,
+                row,
+            ),
+            n,
+        ),
+        RowReading::Refused(k) => NextAnswer::Refused(k),
+    }
 }
 
 // Answers the record at the front of any bytes.
@@ -102,17 +114,9 @@ pub fn answer_record(bytes: &[u8]) -> Answer
     ensures { λ r. ⌜ r ≡ recordAnswerOf (now (bytes .entry)) ⌝ }
     ensures { λ r. ⌜ AnswerPromise (readRefusal (now (bytes .entry))) (scenarioIn (now (bytes .entry))) r ⌝ }
 {
-    match record_reading::read(bytes) {
-        Reading::Read(s, _) => Answer::Enclosed(by_model(
-            s.model,
-            s.magnitude,
-            s.distance,
-            s.velocity,
-            s.mechanism,
-            s.period,
-            row(s.model, s.period),
-        )),
-        Reading::Refused(k) => Answer::Refused(k),
+    match answer_next(bytes) {
+        NextAnswer::Enclosed(e, _) => Answer::Enclosed(e),
+        NextAnswer::Refused(k) => Answer::Refused(k),
     }
 }
 
@@ -140,20 +144,18 @@ pub fn answer_fields_in_doubles(s: Scenario) -> DoublesAnswer
     ensures { λ r. ⌜ r ≡ inDoubles (answerOf s) ⌝ }
     ensures { λ r. ⌜ DoublesPromise (refusalOf s) s (answerOf s) r ⌝ }
 {
-    let k = scenario::refusal(s);
-    if k != 0 {
-        return DoublesAnswer::Refused(k);
+    match scenario::check(s) {
+        Check::Accepted(row) => DoublesAnswer::Enclosed(as_doubles(by_model(
+            s.model,
+            s.magnitude,
+            s.distance,
+            s.velocity,
+            s.mechanism,
+            s.period,
+            row,
+        ))),
+        Check::Refused(k) => DoublesAnswer::Refused(k),
     }
-    let e = by_model(
-        s.model,
-        s.magnitude,
-        s.distance,
-        s.velocity,
-        s.mechanism,
-        s.period,
-        row(s.model, s.period),
-    );
-    DoublesAnswer::Enclosed(as_doubles(e))
 }
 
 // Answers the record at the front of any bytes, in doubles that equal the whole units.
@@ -162,16 +164,8 @@ pub fn answer_record_in_doubles(bytes: &[u8]) -> DoublesAnswer
     ensures { λ r. ⌜ DoublesPromise (readRefusal (now (bytes .entry))) (scenarioIn (now (bytes .entry)))
         (recordAnswerOf (now (bytes .entry))) r ⌝ }
 {
-    match record_reading::read(bytes) {
-        Reading::Read(s, _) => DoublesAnswer::Enclosed(as_doubles(by_model(
-            s.model,
-            s.magnitude,
-            s.distance,
-            s.velocity,
-            s.mechanism,
-            s.period,
-            row(s.model, s.period),
-        ))),
-        Reading::Refused(k) => DoublesAnswer::Refused(k),
+    match answer_next(bytes) {
+        NextAnswer::Enclosed(e, _) => DoublesAnswer::Enclosed(as_doubles(e)),
+        NextAnswer::Refused(k) => DoublesAnswer::Refused(k),
     }
 }

@@ -1,5 +1,5 @@
 -- The promise of an answer, for every scenario, whatever number of a check it is by: demand 3.
-use mathlib.Core.Path.{_≡_, refl, sym, ap, _∙_}
+use mathlib.Core.Path.{_≡_, refl, ap, _∙_}
 use mathlib.Core.Logic.{inl, inr}
 use Prim.Native.Nat.{ℕ, zero, suc, _≤_}
 use native.Mathlib.Omega.{arith}
@@ -8,12 +8,14 @@ use lib.Signed.{_≤ℤ_}
 use Rattle.toolbox_theory.specs.Whole.{up, down}
 use Rattle.toolbox_theory.proofs.Whole.{≤ℤ-in, add-is, within-more}
 use Rattle.exact_theory.specs.Formula.{Formula, ends, Encloses}
-use Rattle.signed_theory.specs.declared.Ends.{Ends}
+use Rattle.interval_theory.specs.declared.SignedEnds.{SignedEnds}
 use Rattle.scenario_theory.specs.declared.Scenario.{Scenario}
+use Rattle.scenario_theory.specs.declared.Check.the-variants as C
 use Rattle.scenario_theory.specs.Refusal.{idriss, booreAtkinson, refusalOf}
+use Rattle.scenario_theory.specs.Rows.{checkOf}
 use Rattle.scenario_theory.proofs.RefusalLaws.{Within, of-model}
 use Rattle.scenario_theory.proofs.CheckLaws.{is-refused}
-use Rattle.scenario_theory.proofs.RowLaws.{idriss-row, boore-atkinson-row}
+use Rattle.scenario_theory.proofs.RowLaws.{idriss-row, boore-atkinson-row, passed, failed}
 use Rattle.idriss_theory.specs.Tables.{takesTable3, rowFor as idrissRowFor}
 use Rattle.idriss_theory.specs.Evaluation.{medianOf as idrissMedianOf}
 use Rattle.idriss_theory.specs.Promise as idrissPromise
@@ -50,7 +52,7 @@ pub record Sound (s : Scenario) (e : Enclosure) : Type 0 where
   pub small : SmallEnclosure e
 
 -- ends that are at most v units apart are at most w
-within : {f : Formula} {e : Ends} (v w : ℕ) → v ≤ w → Encloses (ends (e .low) (e .high)) f →
+within : {f : Formula} {e : SignedEnds} (v w : ℕ) → v ≤ w → Encloses (ends (e .low) (e .high)) f →
     e .high ≤ℤ (e .low +ℤ pos v) → EnclosedWithin w f (e .low) (e .high)
 within {e = e} v w more h narrow =
     record { encloses = h; narrow = within-more (e .high) (e .low) v w more narrow }
@@ -148,14 +150,17 @@ module _ (s : Scenario) where
 
 -- ---- the two cases of an answer from fields
 
-module _ (s : Scenario) (k : ℕ) (checked : k ≡ refusalOf s) where
-  pub fields-refused : (k ≡ 0 → ⊥) → A.Refused k ≡ answerOf s
+module _ (s : Scenario) where
+  pub fields-refused : {k : ℕ} → checkOf s ≡ C.Refused k → A.Refused k ≡ answerOf s
   unfolding answerOf answerBy
-  fields-refused some = rw (← checked) (is-refused k _ (A.Refused k) some)
+  fields-refused {k} e =
+      let f = failed s e in
+      rw (← f .number) (is-refused k _ (A.Refused k) (f .some))
 
-  pub fields-enclosed : {e : Enclosure} → k ≡ 0 → e ≡ enclosureOf s → A.Enclosed e ≡ answerOf s
+  pub fields-enclosed : {row : ℕ} {e : Enclosure} → checkOf s ≡ C.Accepted row → e ≡ enclosureOf s →
+      A.Enclosed e ≡ answerOf s
   unfolding answerOf answerBy
-  fields-enclosed none same = rw (sym checked ∙ none) (ap A.Enclosed same)
+  fields-enclosed c same = rw (passed s c .accepted) (ap A.Enclosed same)
 
 -- ---- and the same in doubles
 

@@ -2,3 +2,4 @@ pub mod Exact
 pub mod Laws
 pub mod RecordLaws
 pub mod RowLaws
+pub mod FlatLaws

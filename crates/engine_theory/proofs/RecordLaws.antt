@@ -1,43 +1,102 @@
 -- Answers from a record: what is read is accepted, and is answered as from fields.
-use mathlib.Core.Path.{_≡_, refl, sym, _∙_}
+use mathlib.Core.Path.{_≡_, refl, sym, ap, _∙_}
 use mathlib.Core.List.{List}
+use mathlib.Core.Logic.{inl, inr}
 use Prim.Native.Nat.{ℕ}
+use native.Mathlib.Omega.{arith}
 use Rattle.scenario_theory.specs.declared.Scenario.{Scenario}
 use Rattle.scenario_theory.specs.Refusal.{refusalOf}
-use Rattle.scenario_theory.proofs.CheckLaws.{is-refused}
+use Rattle.scenario_theory.proofs.CheckLaws.{is-refused, unless-is, of-unless}
 use Rattle.record_theory.specs.declared.Reading.the-variants.{Read, Refused}
-use Rattle.record_theory.specs.Outcome.{scenarioIn, readRefusal, readOf}
-use Rattle.record_theory.proofs.ReadingLaws.{accepted, read-as, not-read}
+use Rattle.record_theory.specs.declared.RowReading.the-variants as T
+use Rattle.record_theory.specs.Outcome.{mapIn, scenarioIn, lengthBy, readRefusal, readOf, restAt}
+use Rattle.record_theory.specs.Steps.{rowReadingOf}
+use Rattle.record_theory.proofs.ReadingLaws.{accepted, read-as, not-read, read-of, row-read}
+use Rattle.engine_theory.specs.declared.Enclosure.{Enclosure}
 use Rattle.engine_theory.specs.declared.Answer.the-variants as A
-use Rattle.engine_theory.specs.Evaluation.{enclosureOf, answerBy, answerOf, recordAnswerOf}
-
-same-answer : {j k : ℕ} {x y : Scenario} → j ≡ k → x ≡ y → answerBy k y ≡ answerBy j x
-same-answer e f = rw (e, f) refl
+use Rattle.engine_theory.specs.declared.NextAnswer.{NextAnswer}
+use Rattle.engine_theory.specs.declared.NextAnswer.the-variants as N
+use Rattle.engine_theory.specs.Promise.{answerIn, lengthIn, NextPromise}
+use Rattle.engine_theory.specs.Evaluation.{enclosureOf, answerBy, answerOf, recordAnswerOf, nextOf}
+use Rattle.engine_theory.proofs.Laws.{promised}
 
 module _ (s : List ℕ) where
   -- a scenario that is read is accepted
   pub read-accepted : readRefusal s ≡ 0 → refusalOf (scenarioIn s) ≡ 0
   read-accepted e = accepted s e .taken
 
-  pub scenario-accepted : (x : Scenario) (n : ℕ) → readOf s ≡ Read x n → refusalOf x ≡ 0
-  scenario-accepted x n e =
-      let r = read-as s x n e in
-      rw (r .scenario) at (r .passes .taken)
+  -- ---- the two cases of an answer with the record's length
 
-  pub record-enclosed : (x : Scenario) (n : ℕ) → readOf s ≡ Read x n → A.Enclosed (enclosureOf x) ≡ recordAnswerOf s
-  unfolding recordAnswerOf answerBy
-  record-enclosed x n e =
+  pub next-enclosed : {x : Scenario} {n row : ℕ} {a : Enclosure} → rowReadingOf s ≡ T.Read x n row →
+      a ≡ enclosureOf x → N.Enclosed a n ≡ nextOf s
+  unfolding nextOf
+  next-enclosed {x} {n} e same =
+      let r = read-as s x n (row-read s e .read) in
+      rw (r .number, r .scenario, r .size, same) refl
+
+  pub next-refused : {k : ℕ} → rowReadingOf s ≡ T.Refused k → N.Refused k ≡ nextOf s
+  unfolding nextOf
+  next-refused {k} e =
+      let r = not-read s k (sym (read-of s e .0)) in
+      rw (r .number) (is-refused k _ (N.Refused k) (r .some))
+
+  -- the answer in it is the answer from the record, and its length that of what is read
+
+  same-answer : answerIn (nextOf s) ≡ recordAnswerOf s
+  unfolding nextOf recordAnswerOf answerBy
+  same-answer = of-unless answerIn (readRefusal s) _ _
+
+  same-length : lengthIn (nextOf s) ≡ restAt s
+  unfolding nextOf restAt
+  same-length = of-unless lengthIn (readRefusal s) _ _
+
+  pub next-answer : {t : NextAnswer} → nextOf s ≡ t → answerIn t ≡ recordAnswerOf s
+  next-answer e = ap answerIn (sym e) ∙ same-answer
+
+  -- every answer of which a contract says `r ≡ nextOf s` keeps the promise
+  pub next-promised : {r : NextAnswer} → r ≡ nextOf s → (r ≡ nextOf s) × NextPromise s r
+  unfolding recordAnswerOf
+  next-promised e = (
+    e,
+    rw e (record {
+      answer = rw same-answer (promised (scenarioIn s) (readRefusal s) read-accepted);
+      length = same-length;
+    }),
+  )
+
+  -- "Answering from a record .. answers the scenario read": as answering from its fields does
+  pub record-as-fields : (x : Scenario) (n : ℕ) → readOf s ≡ Read x n → recordAnswerOf s ≡ answerOf x
+  unfolding recordAnswerOf answerOf
+  record-as-fields x n e =
       let r = read-as s x n e in
-      same-answer (r .number) (r .scenario)
+      let taken = rw (r .scenario) at (r .passes .taken) in
+      rw (r .number, r .scenario, taken) refl
 
   pub record-refused : (k : ℕ) → readOf s ≡ Refused k → A.Refused k ≡ recordAnswerOf s
   unfolding recordAnswerOf answerBy
   record-refused k e =
       let r = not-read s k e in
-      let enclosed = A.Enclosed (enclosureOf (scenarioIn s)) in
-      is-refused k enclosed (A.Refused k) (r .some) ∙ same-answer (r .number) (refl {a = scenarioIn s})
+      rw (r .number) (is-refused k _ (A.Refused k) (r .some))
 
-  -- "Answering from a record .. answers the scenario read": as answering from its fields does
-  pub record-as-fields : (x : Scenario) (n : ℕ) → readOf s ≡ Read x n → recordAnswerOf s ≡ answerOf x
-  unfolding answerOf answerBy
-  record-as-fields x n e = rw (scenario-accepted x n e) (sym (record-enclosed x n e))
+  -- ---- what an answer with the record's length says of the bytes
+
+  pub record NextRead (a : Enclosure) (n : ℕ) : Type 0 where
+    pub read : readOf s ≡ Read (scenarioIn s) n
+    pub answer : A.Enclosed a ≡ answerOf (scenarioIn s)
+
+  pub next-read : {a : Enclosure} {n : ℕ} → nextOf s ≡ N.Enclosed a n → NextRead a n
+  unfolding nextOf readOf answerOf answerBy
+  next-read {a} {n} e = elim (unless-is (readRefusal s) e) [
+    | inl p ↦
+        let same : a ≡ enclosureOf (scenarioIn s) = cc in
+        let size : lengthBy (mapIn s) ≡ n = cc in
+        record { read = rw (p .0, size) refl; answer = rw (read-accepted (p .0), same) refl }
+    | inr p ↦ let z : _≡_ {A = ℕ} 0 1 = cc in absurd (omega arith)
+  ]
+
+  pub next-not-read : {k : ℕ} → nextOf s ≡ N.Refused k → readOf s ≡ Refused k
+  unfolding nextOf readOf
+  next-not-read {k} e = elim (unless-is (readRefusal s) e) [
+    | inl p ↦ let z : _≡_ {A = ℕ} 0 1 = cc in absurd (omega arith)
+    | inr p ↦ let same : readRefusal s ≡ k = cc in rw (← is-refused (readRefusal s) _ _ (p .0), same) refl
+  ]

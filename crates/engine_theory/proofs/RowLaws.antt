@@ -2,8 +2,7 @@
 use mathlib.Core.Path.{_≡_, refl}
 use Prim.Native.Nat.{ℕ}
 use borrow.Author.Tests.{eq-eqb, ne-eqb}
-use Rattle.scenario_theory.specs.Rows.{idrissRow, booreAtkinsonRow}
-use Rattle.engine_theory.specs.Evaluation.{rowOf}
+use Rattle.scenario_theory.specs.Rows.{idrissRow, booreAtkinsonRow, rowOf}
 
 module _ (model period : ℕ) where
   pub first-row : model ≡ 1 → idrissRow period ≡ rowOf model period

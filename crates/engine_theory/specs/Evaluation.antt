@@ -1,17 +1,14 @@
 -- What the engine computes. A change of the way of computing swaps these definitions behind their names; callers go by
 -- the promises of specs/Promise, and by equal answers to equal scenarios, and never by this text.
-use mathlib.Core.Bool.{cond}
 use Prim.Native.Nat.{ℕ, _^_}
 use mathlib.Core.List.{List}
-use lib.Dec.{eqb}
 use lib.IntN.{ℤ}
 use lib.Ieee.{Float, Format, binary64, ofInt}
-use Rattle.signed_theory.specs.Evaluation.{SmallerThan}
+use Rattle.interval_theory.specs.Signed.{SmallerThan}
 use Rattle.scenario_theory.specs.declared.Scenario.{Scenario}
 use Rattle.scenario_theory.specs.Checks.{unlessRefused}
 use Rattle.scenario_theory.specs.Refusal.{refusalOf}
-use Rattle.scenario_theory.specs.Rows.{idrissRow, booreAtkinsonRow}
-use Rattle.record_theory.specs.Outcome.{scenarioIn, readRefusal}
+use Rattle.record_theory.specs.Outcome.{mapIn, scenarioIn, lengthBy, readRefusal}
 use Rattle.idriss_theory.specs.Tables.{rowFor as idrissRowFor}
 use Rattle.idriss_theory.specs.Evaluation.{medianOf as idrissMedianOf, sigmaOf as idrissSigmaOf}
 use Rattle.boore_atkinson_theory.specs.Tables.{rowFor as booreAtkinsonRowFor, totalFor as booreAtkinsonTotalFor}
@@ -20,6 +17,8 @@ use Rattle.engine_theory.specs.declared.Enclosure.{Enclosure}
 use Rattle.engine_theory.specs.declared.Doubles.{Doubles}
 use Rattle.engine_theory.specs.declared.Answer.{Answer}
 use Rattle.engine_theory.specs.declared.Answer.the-variants as A
+use Rattle.engine_theory.specs.declared.NextAnswer.{NextAnswer}
+use Rattle.engine_theory.specs.declared.NextAnswer.the-variants as N
 use Rattle.engine_theory.specs.declared.DoublesAnswer.{DoublesAnswer}
 use Rattle.engine_theory.specs.declared.DoublesAnswer.the-variants as D
 use Rattle.engine_theory.specs.Models.{byModel}
@@ -35,10 +34,6 @@ scenarioWith model magnitude distance velocity mechanism period =
       mechanism = mechanism;
       period = period;
     }
-
--- the row of a period in the tables of its model
-abbrev pub rowOf : ℕ → ℕ → ℕ
-rowOf model period = cond (eqb model 1) (idrissRow period) (booreAtkinsonRow period)
 
 -- ---- in whole numbers of units
 
@@ -67,6 +62,12 @@ answerOf s = answerBy (refusalOf s) s
 -- from a record
 unfoldable pub recordAnswerOf : List ℕ → Answer
 recordAnswerOf bytes = answerBy (readRefusal bytes) (scenarioIn bytes)
+
+-- and with the record's length
+unfoldable pub nextOf : List ℕ → NextAnswer
+nextOf bytes =
+    unlessRefused (readRefusal bytes) (N.Enclosed (enclosureOf (scenarioIn bytes)) (lengthBy (mapIn bytes)))
+    (N.Refused (readRefusal bytes))
 
 -- ---- in doubles
 

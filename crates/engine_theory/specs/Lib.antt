@@ -2,3 +2,4 @@ pub mod Models
 pub mod Evaluation
 pub mod Promise
 pub mod Steps
+pub mod Flat

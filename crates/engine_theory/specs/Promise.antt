@@ -10,8 +10,11 @@ use lib.Ieee.{Float}
 use lib.Ieee.Exact.{HasValue}
 use Rattle.exact_theory.specs.Formula.{Formula, ends, Encloses}
 use Rattle.scenario_theory.specs.declared.Scenario.{Scenario}
+use Rattle.record_theory.specs.Outcome.{scenarioIn, readRefusal, restAt}
 use Rattle.engine_theory.specs.declared.Answer.{Answer}
 use Rattle.engine_theory.specs.declared.Answer.the-variants as A
+use Rattle.engine_theory.specs.declared.NextAnswer.{NextAnswer}
+use Rattle.engine_theory.specs.declared.NextAnswer.the-variants as N
 use Rattle.engine_theory.specs.declared.DoublesAnswer.{DoublesAnswer}
 use Rattle.engine_theory.specs.declared.DoublesAnswer.the-variants as D
 use Rattle.engine_theory.specs.Models.{median, sigma, medianWidth, sigmaWidth}
@@ -23,11 +26,15 @@ abbrev pub answerNumber : Answer → ℕ
 answerNumber (A.Enclosed e) = 0
 answerNumber (A.Refused k) = k
 
--- "An answer has four signed whole numbers of units: low and high of the median, low and high of sigma"; "A refusal
+-- the ends that lines print and doubles equal: "low and high of the median, low and high of sigma"
+abbrev pub shownEnds : Answer → List ℤ
+shownEnds (A.Enclosed e) = e .median .low ∷ e .median .high ∷ e .sigma .low ∷ e .sigma .high ∷ []
+shownEnds (A.Refused k) = []
+
+-- the values of an answer are these and no others: "An answer has four signed whole numbers of units"; "A refusal
 -- returns its number only"
 abbrev pub answerValues : Answer → List ℤ
-answerValues (A.Enclosed e) = e .median .low ∷ e .median .high ∷ e .sigma .low ∷ e .sigma .high ∷ []
-answerValues (A.Refused k) = []
+answerValues a = shownEnds a
 
 -- two ends that enclose the formula f, at every fineness, at most w units apart
 pub record EnclosedWithin (w : ℕ) (f : Formula) (low high : ℤ) : Type 0 where
@@ -50,6 +57,21 @@ pub record AnswerPromise (k : ℕ) (s : Scenario) (a : Answer) : Type 0 where
   pub number : answerNumber a ≡ k
   pub enclosed : k ≡ 0 → EnclosesBoth s (answerValues a)
   pub refused : (k ≡ 0 → ⊥) → answerValues a ≡ []
+
+-- ---- of the record at the front of some bytes, with its length
+
+-- the answer, and the length, 0 where it is refused
+abbrev pub answerIn : NextAnswer → Answer
+answerIn (N.Enclosed e n) = A.Enclosed e
+answerIn (N.Refused k) = A.Refused k
+
+abbrev pub lengthIn : NextAnswer → ℕ
+lengthIn (N.Enclosed e n) = n
+lengthIn (N.Refused k) = 0
+
+pub record NextPromise (bytes : List ℕ) (r : NextAnswer) : Type 0 where
+  pub answer : AnswerPromise (readRefusal bytes) (scenarioIn bytes) (answerIn r)
+  pub length : lengthIn r ≡ restAt bytes
 
 -- ---- in doubles
 
@@ -78,4 +100,4 @@ AllEqual (x ∷ xs) (z ∷ zs) = Equals x z × AllEqual xs zs
 pub record DoublesPromise (k : ℕ) (s : Scenario) (a : Answer) (d : DoublesAnswer) : Type 0 where
   pub whole : AnswerPromise k s a
   pub number : doublesNumber d ≡ answerNumber a
-  pub values : AllEqual (doublesValues d) (answerValues a)
+  pub values : AllEqual (doublesValues d) (shownEnds a)

@@ -3,12 +3,6 @@ use mathlib.Core.Path.{_≡_}
 use Prim.Native.Nat.{ℕ}
 use Rattle.scenario_theory.specs.declared.Scenario.{Scenario}
 use Rattle.scenario_theory.specs.Refusal.{refusalOf}
-use Rattle.engine_theory.specs.Evaluation.{rowOf}
-
--- s is accepted, and k is the row of its period in the tables of its model
-pub record Looked (s : Scenario) (k : ℕ) : Type 0 where
-  pub accepted : refusalOf s ≡ 0
-  pub row : k ≡ rowOf (s .model) (s .period)
 
 -- s is accepted by the model of this number, and k is the row of its period, as rowFor has it
 pub record TakenBy (number : ℕ) (rowFor : ℕ → ℕ) (s : Scenario) (k : ℕ) : Type 0 where

@@ -7,7 +7,8 @@ use lib.IntN.{pos}
 use Rattle.toolbox_theory.specs.Whole.{up, down}
 use Rattle.exact_theory.specs.Fraction.{_over_, _≤q_, _≈q_, _+q_, zeroQ}
 use Rattle.exact_theory.specs.Logarithm.{harmonic}
-use Rattle.exact_theory.proofs.FractionLaws.{zero-Is, over-Is, add-Is, le-of, ≤q-refl, ≤q-trans, ≤q-antisym}
+use Rattle.exact_theory.proofs.AlgebraLaws.{≈q-refl, ≈q-trans, add-cong}
+use Rattle.exact_theory.proofs.FractionLaws.{zero-Is, over-Is, add-Is, le-of, ≤q-refl, ≤q-trans, eq-of}
 use Rattle.exact_theory.proofs.FractionLaws.{≈q-≤q, ≈q-≥q, ≈q-sym, add-mono, add-more, add-assoc, zeroQ-add}
 
 -- ---- n / d with n not negative
@@ -18,9 +19,7 @@ over-≤ n m {d} {e} hd he h = le-of (over-Is (pos n) d hd) (over-Is (pos m) e h
 
 pub over-add : (n m : ℕ) {d : ℕ} → 1 ≤ d → (pos n over d) +q (pos m over d) ≈q pos (n + m) over d
 unfolding up down
-over-add n m {d} h =
-    ≤q-antisym (le-of (add-Is (over-Is (pos n) d h) (over-Is (pos m) d h)) (over-Is (pos (n + m)) d h) (omega arith))
-    (le-of (over-Is (pos (n + m)) d h) (add-Is (over-Is (pos n) d h) (over-Is (pos m) d h)) (omega arith))
+over-add n m {d} h = eq-of (add-Is (over-Is _ d h) (over-Is _ d h)) (over-Is _ d h) (omega arith)
 
 -- ---- the first c terms, and the rest
 
@@ -28,9 +27,8 @@ pub harmonic-split : (c d k : ℕ) → harmonic (c + d) k ≈q harmonic c k +q h
 unfolding harmonic
 harmonic-split zero d k = rw (zero-add, add-zero) (≈q-sym (zeroQ-add (harmonic d k)))
 harmonic-split (suc c) d k =
-    rw (suc-add c d, add-suc k c, ← suc-add k c) (≤q-antisym
-    (≤q-trans (add-mono (≤q-refl _) (≈q-≤q (harmonic-split c d (suc k)))) (≈q-≥q (add-assoc _ _ _)))
-    (≤q-trans (≈q-≤q (add-assoc _ _ _)) (add-mono (≤q-refl _) (≈q-≥q (harmonic-split c d (suc k))))))
+    rw (suc-add c d, add-suc k c, ← suc-add k c)
+    (≈q-trans (add-cong (≈q-refl _) (harmonic-split c d (suc k))) (≈q-sym (add-assoc _ _ _)))
 
 -- ---- not below zero, and more for more terms
 
@@ -77,17 +75,22 @@ module _ (w : ℕ → ℕ) {D : ℕ} (hD : 1 ≤ D) where
       (weights-above c (suc k) (omega arith) (λ j p q. h j (omega arith) (omega arith))))
       (≈q-≤q (over-add (w k) (weights w c (suc k)) hD))
 
-pub weights-one : (c k : ℕ) → weights (λ (j : ℕ). 1) c k ≡ c
+weights-one : (c k : ℕ) → weights (λ (j : ℕ). 1) c k ≡ c
 weights-one zero k = refl
 weights-one (suc c) k = omega (arith, weights-one c (suc k))
+
+-- c terms, none of them below 1/D
+pub harmonic-last : (c k : ℕ) {D : ℕ} → 1 ≤ D → 1 ≤ k → k + c ≤ suc D → pos c over D ≤q harmonic c k
+harmonic-last c k {D} hD hk h =
+    rw (weights-one c k) at (weights-below (λ (j : ℕ). 1) hD c k hk (λ j p q. omega arith))
 
 -- the weights r (s − k)
 pub weights-down : (r s c k : ℕ) → k + c ≤ suc s →
     2 * weights (λ (j : ℕ). r * (s - j)) c k + r * (2 * (c * k) + c * c) ≡ r * (2 * (c * s) + c)
 weights-down r s zero k h = omega arith
 weights-down r s (suc c) k h =
-    let e : s - k + k ≡ s = sub-add-cancel (omega arith) in
-    omega (arith, weights-down r s c (suc k) (omega arith), ap (λ (z : ℕ). r * z) e)
+    let e = ap (λ (z : ℕ). r * z) (sub-add-cancel {n = s} {m = k} (omega arith)) in
+    omega (arith, weights-down r s c (suc k) (omega arith))
 
 -- ---- r terms in the place of each: the upper sum falls, and the lower sum rises
 
@@ -98,31 +101,25 @@ more c r = omega arith
 terms-below : (r k : ℕ) → 1 ≤ r → 1 ≤ k → harmonic r (k * r) ≤q pos 1 over k
 terms-below r k hr hk =
     let n : 1 ≤ k * r = one-le-mul hk hr in
-    ≤q-trans (weights-above (λ (j : ℕ). 1) n r (k * r) n (λ j p q. omega arith))
-    (rw (weights-one r (k * r)) (over-≤ r 1 n hk (omega arith)))
+    ≤q-trans (harmonic-most r (k * r) n) (over-≤ r 1 n hk (omega arith))
 
 terms-above : (r k : ℕ) → 1 ≤ r → pos 1 over suc k ≤q harmonic r (suc (k * r))
 terms-above r k hr =
     let n : 1 ≤ suc k * r = one-le-mul {a = suc k} (omega arith) hr in
-    let w = weights-below (λ (j : ℕ). 1) n r (suc (k * r)) (omega arith) (λ j p q. omega arith) in
-    ≤q-trans (over-≤ 1 r (omega arith) n (omega arith)) (rw (weights-one r (suc (k * r))) at w)
+    ≤q-trans (over-≤ 1 r (omega arith) n (omega arith)) (harmonic-last r (suc (k * r)) n (omega arith) (omega arith))
 
 pub finer-upper : (r c k : ℕ) → 1 ≤ r → 1 ≤ k → harmonic (c * r) (k * r) ≤q harmonic c k
 unfolding harmonic
 finer-upper r zero k hr hk = rw zero-mul (≤q-refl _)
 finer-upper r (suc c) k hr hk =
+    let next : k * r + r ≡ suc k * r = omega arith in
     rw (more c r) (≤q-trans (≈q-≤q (harmonic-split r (c * r) (k * r)))
     (add-mono (terms-below r k hr hk) (rw next (finer-upper r c (suc k) hr (omega arith)))))
-  where
-    next : k * r + r ≡ suc k * r
-    next = omega arith
 
 pub finer-lower : (r c k : ℕ) → 1 ≤ r → harmonic c (suc k) ≤q harmonic (c * r) (suc (k * r))
 unfolding harmonic
 finer-lower r zero k hr = rw zero-mul (≤q-refl _)
 finer-lower r (suc c) k hr =
+    let next : suc (k * r) + r ≡ suc (suc k * r) = omega arith in
     rw (more c r) (≤q-trans (add-mono (terms-above r k hr) (rw next (finer-lower r c (suc k) hr)))
     (≈q-≥q (harmonic-split r (c * r) (suc (k * r)))))
-  where
-    next : suc (k * r) + r ≡ suc (suc k * r)
-    next = omega arith

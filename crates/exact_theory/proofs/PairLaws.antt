@@ -1,15 +1,15 @@
 -- Points go through the operations on pairs: what lies in the operands' pairs is taken to what lies in the result's.
 -- So pairs that meet have results that meet.
-use mathlib.Core.Path.{_≡_, refl}
-use mathlib.Core.Bool.{Bool, true, false, cond}
-use lib.Dec.{T}
+use mathlib.Core.Bool.{cond}
+use lib.Dec.{T, T-not}
+use Rattle.toolbox_theory.proofs.Tests.{by-test}
 use Rattle.exact_theory.specs.Fraction.{Fraction, leQ, _≤q_, _<q_, _+q_, _-q_, _*q_, _/q_, zeroQ, maxQ}
 use Rattle.exact_theory.specs.Pair.{Pair, _∈_, Meets, AboveZero, exactly, _+p_, _-p_, span4, _*p_, _/p_}
 use Rattle.exact_theory.specs.Pair.{hull, reachesUpTo, reachesAbove, branch}
-use Rattle.exact_theory.proofs.FractionLaws.{≤q-refl, ≤q-trans, <q-≤q-trans, ≤q-<q-trans, mul-above, min-above}
+use Rattle.exact_theory.proofs.FractionLaws.{≤q-refl, ≤q-trans, <q-≤q-trans, ≤q-<q-trans, mul-above, min-has}
 use Rattle.exact_theory.proofs.FractionLaws.{add-mono, sub-mono, Between, upward, downward, mul-between-left}
 use Rattle.exact_theory.proofs.FractionLaws.{mul-between-right, between-low, between-high, recip-anti, min-left}
-use Rattle.exact_theory.proofs.FractionLaws.{min-right, max-left, max-right, max-least}
+use Rattle.exact_theory.proofs.FractionLaws.{min-right, max-left, max-right, max-has}
 
 -- the low end is at most the high end, as in every pair of a formula that is `Defined`
 pub record Proper (P : Pair) : Type 0 where
@@ -38,34 +38,34 @@ pub in-sub : {x y : Fraction} {P Q : Pair} → x ∈ P → y ∈ Q → x -q y �
 unfolding _-p_
 in-sub h k = record { from = sub-mono (h .from) (k .to); to = sub-mono (h .to) (k .from) }
 
--- the four that are spanned
-module _ (a b c d : Fraction) where
-  in-first : a ∈ span4 a b c d
-  unfolding span4
-  in-first = record { from = ≤q-trans (min-left _ _) (min-left a b); to = ≤q-trans (max-left a b) (max-left _ _) }
+pub in-hull-left : {x : Fraction} {P : Pair} (Q : Pair) → x ∈ P → x ∈ hull P Q
+unfolding hull
+in-hull-left Q h = record { from = ≤q-trans (min-left _ _) (h .from); to = ≤q-trans (h .to) (max-left _ _) }
 
-  in-second : b ∈ span4 a b c d
-  unfolding span4
-  in-second = record { from = ≤q-trans (min-left _ _) (min-right a b); to = ≤q-trans (max-right a b) (max-left _ _) }
+pub in-hull-right : {x : Fraction} (P : Pair) {Q : Pair} → x ∈ Q → x ∈ hull P Q
+unfolding hull
+in-hull-right P h = record { from = ≤q-trans (min-right _ _) (h .from); to = ≤q-trans (h .to) (max-right _ _) }
 
-  in-third : c ∈ span4 a b c d
-  unfolding span4
-  in-third = record { from = ≤q-trans (min-right _ _) (min-left c d); to = ≤q-trans (max-left c d) (max-right _ _) }
+-- what holds of the four that are spanned holds of both ends
+pub span-has : {a b c d : Fraction} (P : Fraction → Type 0) → P a → P b → P c → P d →
+    P (span4 a b c d .low) × P (span4 a b c d .high)
+unfolding span4
+span-has P a b c d = (min-has P (min-has P a b) (min-has P c d), max-has P (max-has P a b) (max-has P c d))
 
-  in-fourth : d ∈ span4 a b c d
-  unfolding span4
-  in-fourth = record { from = ≤q-trans (min-right _ _) (min-right c d); to = ≤q-trans (max-right c d) (max-right _ _) }
-
--- what lies between two points of a pair lies in it
-between-in : {a b z : Fraction} {P : Pair} → Between a b z → a ∈ P → b ∈ P → z ∈ P
-between-in g h k = record { from = between-low g (h .from) (k .from); to = between-high g (h .to) (k .to) }
+-- what lies between points of two pairs lies in what spans them
+between-in : {a b z : Fraction} {P Q : Pair} → Between a b z → a ∈ P → b ∈ Q → z ∈ hull P Q
+between-in {P = P} {Q} g h k =
+    let left = in-hull-left Q h in
+    let right = in-hull-right P k in
+    record { from = between-low g (left .from) (right .from); to = between-high g (left .to) (right .to) }
 
 -- x from a to b, and y from c to d or from d to c: x y is among the four products
 in-span : {a b c d x y : Fraction} → Between a b x → Between c d y →
     x *q y ∈ span4 (a *q c) (a *q d) (b *q c) (b *q d)
+unfolding span4 hull exactly
 in-span {a} {b} {c} {d} {x} {y} h k =
-    between-in (mul-between-left y h) (between-in (mul-between-right a k) (in-first _ _ _ _) (in-second _ _ _ _))
-    (between-in (mul-between-right b k) (in-third _ _ _ _) (in-fourth _ _ _ _))
+    between-in (mul-between-left y h) (between-in (mul-between-right a k) (in-exactly (a *q c)) (in-exactly (a *q d)))
+    (between-in (mul-between-right b k) (in-exactly (b *q c)) (in-exactly (b *q d)))
 
 in-between : {x : Fraction} {P : Pair} → x ∈ P → Between (P .low) (P .high) x
 in-between h = upward (h .from) (h .to)
@@ -79,14 +79,6 @@ unfolding _/p_ _/q_
 in-div z h k =
     in-span (in-between h)
     (downward (recip-anti (<q-≤q-trans (z .above) (k .from)) (k .to)) (recip-anti (z .above) (k .from)))
-
-pub in-hull-left : {x : Fraction} {P : Pair} (Q : Pair) → x ∈ P → x ∈ hull P Q
-unfolding hull
-in-hull-left Q h = record { from = ≤q-trans (min-left _ _) (h .from); to = ≤q-trans (h .to) (max-left _ _) }
-
-pub in-hull-right : {x : Fraction} (P : Pair) {Q : Pair} → x ∈ Q → x ∈ hull P Q
-unfolding hull
-in-hull-right P h = record { from = ≤q-trans (min-right _ _) (h .from); to = ≤q-trans (h .to) (max-right _ _) }
 
 -- ---- branches
 
@@ -110,32 +102,29 @@ pub above-reached : {P Q : Pair} → Proper P → Proper Q → T (reachesAbove P
 unfolding reachesAbove
 above-reached {P} {Q} p q t = (P .high, Q .low, high-in p, low-in q, record { lt = t })
 
--- a point of A is one of the branch where A is reached, and so for B
-to-first : (c e : Bool) (B H : Pair) {A : Pair} {z : Fraction} →
-    T c → z ∈ A → (z ∈ A → z ∈ H) → z ∈ cond c (cond e H A) B
-to-first true true B H t h k = k h
-to-first true false B H t h k = h
-to-first false e B H t h k = absurd t
+-- what holds of A and of what spans both holds of the branch where A is reached, and so for B
+module _ (P Q A B : Pair) (K : Pair → Type 0) where
+  pub branch-first : T (reachesUpTo P Q) → K A → K (hull A B) → K (branch P Q A B)
+  unfolding branch
+  branch-first t a h =
+      by-test (reachesUpTo P Q) K (λ c. by-test (reachesAbove P Q) K (λ d. h) (λ d. a))
+      (λ c. absurd (T-not (reachesUpTo P Q) c t))
 
-to-second : (c e : Bool) (A H : Pair) {B : Pair} {z : Fraction} →
-    T e → z ∈ B → (z ∈ B → z ∈ H) → z ∈ cond c (cond e H A) B
-to-second true true A H t h k = k h
-to-second true false A H t h k = absurd t
-to-second false e A H t h k = h
+  pub branch-second : T (reachesAbove P Q) → K B → K (hull A B) → K (branch P Q A B)
+  unfolding branch
+  branch-second t b h =
+      by-test (reachesUpTo P Q) K
+      (λ c. by-test (reachesAbove P Q) K (λ d. h) (λ d. absurd (T-not (reachesAbove P Q) d t))) (λ c. b)
 
 -- z where x is up to y, else w: only a branch that is reached need hold its point
 pub in-branch : {x y z w : Fraction} {P Q A B : Pair} → x ∈ P → y ∈ Q →
     (T (reachesUpTo P Q) → z ∈ A) → (T (reachesAbove P Q) → w ∈ B) → cond (leQ x y) z w ∈ branch P Q A B
-unfolding branch
-in-branch {x} {y} {z} {w} {P} {Q} {A} {B} h k i j = go (leQ x y) refl
-  where
-    go : (c : Bool) → leQ x y ≡ c → cond c z w ∈ branch P Q A B
-    go true e =
-        let t = reached-upTo h k (record { le = rw e tt }) in
-        to-first (reachesUpTo P Q) (reachesAbove P Q) B _ t (i t) (in-hull-left _)
-    go false e =
-        let t = reached-above h k (record { lt = rw e tt }) in
-        to-second (reachesUpTo P Q) (reachesAbove P Q) A _ t (j t) (in-hull-right _)
+in-branch {x} {y} {z} {w} {P} {Q} {A} {B} h k i j =
+    by-test (leQ x y) (λ v. v ∈ branch P Q A B)
+    (λ c. let t = reached-upTo h k (record { le = c }) in
+    branch-first P Q A B (λ H. z ∈ H) t (i t) (in-hull-left B (i t)))
+    (λ c. let t = reached-above h k (record { lt = c }) in
+    branch-second P Q A B (λ H. w ∈ H) t (j t) (in-hull-right A (j t)))
 
 -- ---- pairs that meet
 
@@ -143,19 +132,18 @@ in-branch {x} {y} {z} {w} {P} {Q} {A} {B} h k i j = go (leQ x y) refl
 pub ends-meet : {P Q : Pair} → Proper P → Proper Q → P .low ≤q Q .high → Q .low ≤q P .high → Meets P Q
 ends-meet {P} {Q} p q h k = record {
   point = maxQ (P .low) (Q .low);
-  left = record { from = max-left _ _; to = max-least (p .ordered) k };
-  right = record { from = max-right _ _; to = max-least h (q .ordered) };
+  left = record { from = max-left _ _; to = max-has (λ m. m ≤q P .high) (p .ordered) k };
+  right = record { from = max-right _ _; to = max-has (λ m. m ≤q Q .high) h (q .ordered) };
 }
 
 -- ---- products of what is above zero
 
-above-high : {P : Pair} → Proper P → AboveZero P → zeroQ <q P .high
-above-high p z = <q-≤q-trans (z .above) (p .ordered)
-
 pub above-mul : {P Q : Pair} → AboveZero P → AboveZero Q → Proper P → Proper Q → AboveZero (P *p Q)
-unfolding _*p_ span4
-above-mul z y p q = record {
-  above =
-      min-above (min-above (mul-above (z .above) (y .above)) (mul-above (z .above) (above-high q y)))
-      (min-above (mul-above (above-high p z) (y .above)) (mul-above (above-high p z) (above-high q y)));
-}
+unfolding _*p_
+above-mul z y p q =
+    let a = <q-≤q-trans (z .above) (p .ordered) in
+    let b = <q-≤q-trans (y .above) (q .ordered) in
+    let s =
+    span-has (λ m. zeroQ <q m) (mul-above (z .above) (y .above)) (mul-above (z .above) b) (mul-above a (y .above))
+    (mul-above a b) in
+    record { above = s .0 }

@@ -61,13 +61,11 @@ module _ {n : ℕ} {σ : Points} (picked : Picked n σ) where
 -- so a formula's pair is proper: its low ends are points
 pub eval-proper : {n : ℕ} → 1 ≤ n → (e : Formula) → Defined n e → Proper (eval n e)
 unfolding rootPair
-eval-proper {n} g e d = in-proper (value-in lows e d)
-  where
-    lows : Picked n (record { lnAt = λ a b. lnPair n a b .low; rootAt = λ X. rootPair n X .low })
-    lows = record {
+eval-proper {n} g e d =
+    let lows : Picked n (record { lnAt = λ a b. lnPair n a b .low; rootAt = λ X. rootPair n X .low }) = record {
       lnIn = λ a b ha hb. low-in (ln-proper ha hb n g);
       rootIn = λ X. low-in (values-proper n (wholeRoot (X * (n * n))) g);
-    }
+    } in in-proper (value-in lows e d)
 
 -- ---- where every divisor is above zero
 
@@ -99,19 +97,18 @@ Sound (e ⊗ f) = Sound e × Sound f
 Sound (e ⊘ f) = Sound e × Positive f
 Sound (ifUpTo e f A B) = Sound e × Sound f × Sound A × Sound B
 
-sound-defined : (n : ℕ) → 1 ≤ n → (e : Formula) → Sound e → Defined n e
-unfolding Sound Defined
-sound-defined n g (stated x) s = tt
-sound-defined n g (ln a b) s = s
-sound-defined n g (root X) s = tt
-sound-defined n g (e ⊕ f) s = (sound-defined n g e (s .0), sound-defined n g f (s .1))
-sound-defined n g (e ⊖ f) s = (sound-defined n g e (s .0), sound-defined n g f (s .1))
-sound-defined n g (e ⊗ f) s = (sound-defined n g e (s .0), sound-defined n g f (s .1))
-sound-defined n g (e ⊘ f) s = (sound-defined n g e (s .0), s .1 .defined n g, s .1 .above n g)
-sound-defined n g (ifUpTo e f A B) s =
-    let a = sound-defined n g A (s .2) in
-    let b = sound-defined n g B (s .3) in
-    (sound-defined n g e (s .0), sound-defined n g f (s .1), λ t. a, λ t. b)
+module _ (n : ℕ) (g : 1 ≤ n) where
+  sound-defined : (e : Formula) → Sound e → Defined n e
+  unfolding Sound Defined
+  sound-defined (stated x) s = tt
+  sound-defined (ln a b) s = s
+  sound-defined (root X) s = tt
+  sound-defined (e ⊕ f) s = (sound-defined e (s .0), sound-defined f (s .1))
+  sound-defined (e ⊖ f) s = (sound-defined e (s .0), sound-defined f (s .1))
+  sound-defined (e ⊗ f) s = (sound-defined e (s .0), sound-defined f (s .1))
+  sound-defined (e ⊘ f) s = (sound-defined e (s .0), s .1 .defined n g, s .1 .above n g)
+  sound-defined (ifUpTo e f A B) s =
+      (sound-defined e (s .0), sound-defined f (s .1), λ t. sound-defined A (s .2), λ t. sound-defined B (s .3))
 
 -- ---- from points to an enclosure
 

@@ -15,9 +15,7 @@ use Rattle.exact_theory.proofs.FractionLaws.{between-high}
 -- p − q units
 pub units-Is : (p q : ℕ) → Is (units (subℕ p q)) p q 1_000_000_000
 unfolding units
-units-Is p q =
-    let i = over-Is (subℕ p q) 1_000_000_000 (omega arith) in
-    record { value = omega (arith, sub-is p q); scale = i .scale }
+units-Is p q = omega (arith, sub-is p q, over-Is (subℕ p q) 1_000_000_000 (omega arith))
 
 -- x lies from lu − ld to hu − hd units
 pub record Lies (x : Fraction) (lu ld hu hd : ℕ) : Type 0 where
@@ -32,12 +30,19 @@ pub lies-natural : {x : Fraction} (l h : ℕ) → x ∈ ends (pos l) (pos h) →
 unfolding ends
 lies-natural l h p = record { from = rw (sub-zero l) (p .from); to = rw (sub-zero h) (p .to) }
 
+-- x lies between two numbers, and they between the ends
+lies-between : {x y z : Fraction} {u v d s t e : ℕ} → Is y u v d → Is z s t e → y ≤q x → x ≤q z → (lu ld hu hd : ℕ) →
+    lu * d + v * 1_000_000_000 ≤ u * 1_000_000_000 + ld * d →
+    s * 1_000_000_000 + hd * e ≤ hu * e + t * 1_000_000_000 → Lies x lu ld hu hd
+lies-between i j h k lu ld hu hd p q = record {
+  from = ≤q-trans (le-of (units-Is lu ld) i (omega arith)) h;
+  to = ≤q-trans k (le-of j (units-Is hu hd) (omega arith));
+}
+
 pub lies-wider : {x : Fraction} {lu ld hu hd : ℕ} → Lies x lu ld hu hd → (lu' ld' hu' hd' : ℕ) →
     lu' + ld ≤ lu + ld' → hu + hd' ≤ hu' + hd → Lies x lu' ld' hu' hd'
-lies-wider {lu = lu} {ld} {hu} {hd} h lu' ld' hu' hd' p q = record {
-  from = ≤q-trans (le-of (units-Is lu' ld') (units-Is lu ld) (omega arith)) (h .from);
-  to = ≤q-trans (h .to) (le-of (units-Is hu hd) (units-Is hu' hd') (omega arith));
-}
+lies-wider {lu = lu} {ld} {hu} {hd} h lu' ld' hu' hd' p q =
+    lies-between (units-Is lu ld) (units-Is hu hd) (h .from) (h .to) lu' ld' hu' hd' (omega arith) (omega arith)
 
 pub lies-same : {x y : Fraction} {lu ld hu hd : ℕ} → x ≈q y → Lies y lu ld hu hd → Lies x lu ld hu hd
 lies-same e h = record { from = ≤q-trans (h .from) (≈q-≥q e); to = ≤q-trans (≈q-≤q e) (h .to) }
@@ -48,32 +53,20 @@ pub lies-stated : {x : Fraction} {u v d : ℕ} → Is x u v d → (p q : ℕ) �
 lies-stated i p q e = record { from = le-of (units-Is p q) i (omega arith); to = le-of i (units-Is p q) (omega arith) }
 
 pub lies-negated : {x : Fraction} {lu ld hu hd : ℕ} → Lies x lu ld hu hd → Lies (negQ x) hd hu ld lu
-lies-negated {lu = lu} {ld} {hu} {hd} h = record {
-  from = ≤q-trans (le-of (units-Is hd hu) (neg-Is (units-Is hu hd)) (omega arith)) (neg-anti (h .to));
-  to = ≤q-trans (neg-anti (h .from)) (le-of (neg-Is (units-Is lu ld)) (units-Is ld lu) (omega arith));
-}
+lies-negated {lu = lu} {ld} {hu} {hd} h =
+    lies-between (neg-Is (units-Is hu hd)) (neg-Is (units-Is lu ld)) (neg-anti (h .to)) (neg-anti (h .from))
+    hd hu ld lu (omega arith) (omega arith)
 
-module _ {x y : Fraction} {a a' b b' c c' d d' : ℕ} (h : Lies x a a' b b') (k : Lies y c c' d d') where
-  pub lies-sum : Lies (x +q y) (a + c) (a' + c') (b + d) (b' + d')
-  lies-sum = record {
-    from =
-        ≤q-trans (le-of (units-Is (a + c) (a' + c')) (add-Is (units-Is a a') (units-Is c c')) (omega arith))
-        (add-mono (h .from) (k .from));
-    to =
-        ≤q-trans (add-mono (h .to) (k .to))
-        (le-of (add-Is (units-Is b b') (units-Is d d')) (units-Is (b + d) (b' + d')) (omega arith));
-  }
+pub lies-sum : {x y : Fraction} {a a' b b' c c' d d' : ℕ} → Lies x a a' b b' → Lies y c c' d d' →
+    Lies (x +q y) (a + c) (a' + c') (b + d) (b' + d')
+lies-sum {a = a} {a'} {b} {b'} {c} {c'} {d} {d'} h k =
+    lies-between (add-Is (units-Is a a') (units-Is c c')) (add-Is (units-Is b b') (units-Is d d'))
+    (add-mono (h .from) (k .from)) (add-mono (h .to) (k .to)) _ _ _ _ (omega arith) (omega arith)
 
-  pub lies-difference : Lies (x -q y) (a + d') (a' + d) (b + c') (b' + c)
-  unfolding _-q_
-  lies-difference = record {
-    from =
-        ≤q-trans (le-of (units-Is (a + d') (a' + d)) (add-Is (units-Is a a') (neg-Is (units-Is d d'))) (omega arith))
-        (add-mono (h .from) (neg-anti (k .to)));
-    to =
-        ≤q-trans (add-mono (h .to) (neg-anti (k .from)))
-        (le-of (add-Is (units-Is b b') (neg-Is (units-Is c c'))) (units-Is (b + c') (b' + c)) (omega arith));
-  }
+pub lies-difference : {x y : Fraction} {a a' b b' c c' d d' : ℕ} → Lies x a a' b b' → Lies y c c' d d' →
+    Lies (x -q y) (a + d') (a' + d) (b + c') (b' + c)
+unfolding _-q_
+lies-difference h k = lies-sum h (lies-negated k)
 
 -- (u − v)/s times (e − e') is at least lu − ld, and at most hu − hd
 abbrev pub AtLeast : ℕ → ℕ → ℕ → ℕ → ℕ → ℕ → ℕ → Type 0

@@ -3,36 +3,29 @@
 use mathlib.Core.Path.{_≡_}
 use mathlib.Core.List.{List, [], _∷_}
 use Prim.Native.Nat.{ℕ}
-use lib.IntN.{ℤ, pos}
 use lib.Ieee.{Float}
 use lib.ListN.{length}
 use Rattle.scenario_theory.specs.declared.Scenario.{Scenario}
 use Rattle.record_theory.specs.Layout.{recordOf}
 use Rattle.record_theory.specs.Outcome.{mapIn, scenarioIn, lengthBy, readRefusal, writeRefusal}
-use Rattle.engine_theory.specs.Promise.{EnclosesBoth, AllEqual}
-use Rattle.host.specs.declared.HostAnswer.{HostAnswer}
+use Rattle.engine_theory.specs.declared.FlatAnswer.{FlatAnswer}
+use Rattle.engine_theory.specs.Promise.{AllEqual}
+use Rattle.engine_theory.specs.Flat.{endsIn, FlatPromise}
 use Rattle.host.specs.declared.HostDoubles.{HostDoubles}
 use Rattle.host.specs.declared.HostReading.{HostReading}
 use Rattle.host.specs.declared.HostWriting.{HostWriting}
 use Rattle.host.specs.Told.{scenarioFrom, noFields}
 
--- "low and high of the median, low and high of sigma"
-abbrev pub endsIn : HostAnswer → List ℤ
-endsIn a = a .«median_low» ∷ a .«median_high» ∷ a .«sigma_low» ∷ a .«sigma_high» ∷ []
-
 -- "Hosts with binary64 get the four ends as doubles", in the same order
 abbrev pub doublesIn : HostDoubles → List Float
 doublesIn d = d .«median_low» ∷ d .«median_high» ∷ d .«sigma_low» ∷ d .«sigma_high» ∷ []
 
--- an answer to s where k is the number of the first check that applies, 0 where none does: the number k itself, ends
--- that enclose what the model of s gives where it is 0, and zeros where it is not
-pub record HostAnswerPromise (k : ℕ) (s : Scenario) (a : HostAnswer) : Type 0 where
-  pub number : a .number ≡ k
-  pub enclosed : k ≡ 0 → EnclosesBoth s (endsIn a)
-  pub zeros : (k ≡ 0 → ⊥) → endsIn a ≡ pos 0 ∷ pos 0 ∷ pos 0 ∷ pos 0 ∷ []
+-- of an answer, what is promised of its plain struct
+abbrev pub HostAnswerPromise : ℕ → Scenario → FlatAnswer → Type 0
+HostAnswerPromise k s a = FlatPromise k s a
 
 -- the same answer in doubles, "that equal the whole numbers, nothing rounded"
-pub record HostDoublesPromise (k : ℕ) (s : Scenario) (a : HostAnswer) (d : HostDoubles) : Type 0 where
+pub record HostDoublesPromise (k : ℕ) (s : Scenario) (a : FlatAnswer) (d : HostDoubles) : Type 0 where
   pub whole : HostAnswerPromise k s a
   pub number : d .number ≡ a .number
   pub equal : AllEqual (doublesIn d) (endsIn a)

@@ -1,18 +1,14 @@
--- What C is told: the host's plain structs for the engine's scenario, answers, readings and writings. An enum does not
--- pass, so a refused one is the number with zeros, and an accepted one has the number 0.
-use lib.IntN.{pos}
+-- What C is told beside the plain struct of an answer: structs for the engine's scenario, doubles, readings and
+-- writings. An enum does not pass, so a refused one is the number with zeros, and an accepted one has the number 0.
 use lib.Ieee.{Float, binary64, ofBits}
 use Rattle.scenario_theory.specs.declared.Scenario.{Scenario}
 use Rattle.record_theory.specs.declared.Reading.{Reading}
 use Rattle.record_theory.specs.declared.Reading.the-variants as R
 use Rattle.record_theory.specs.declared.Writing.{Writing}
 use Rattle.record_theory.specs.declared.Writing.the-variants as W
-use Rattle.engine_theory.specs.declared.Answer.{Answer}
-use Rattle.engine_theory.specs.declared.Answer.the-variants as A
 use Rattle.engine_theory.specs.declared.DoublesAnswer.{DoublesAnswer}
 use Rattle.engine_theory.specs.declared.DoublesAnswer.the-variants as D
 use Rattle.host.specs.declared.HostScenario.{HostScenario}
-use Rattle.host.specs.declared.HostAnswer.{HostAnswer}
 use Rattle.host.specs.declared.HostDoubles.{HostDoubles}
 use Rattle.host.specs.declared.HostReading.{HostReading}
 use Rattle.host.specs.declared.HostWriting.{HostWriting}
@@ -44,23 +40,6 @@ fieldsOf x =
 -- the fields beside a refusal
 abbrev pub noFields : HostScenario
 noFields = record { model = 0; magnitude = 0; distance = 0; velocity = 0; mechanism = 0; period = 0 }
-
--- "An answer has four signed whole numbers of units"; "A refusal returns its number only"
-abbrev pub told : Answer → HostAnswer
-told (A.Enclosed e) = record {
-  number = 0;
-  «median_low» = e .median .low;
-  «median_high» = e .median .high;
-  «sigma_low» = e .sigma .low;
-  «sigma_high» = e .sigma .high;
-}
-told (A.Refused k) = record {
-  number = k;
-  «median_low» = pos 0;
-  «median_high» = pos 0;
-  «sigma_low» = pos 0;
-  «sigma_high» = pos 0;
-}
 
 -- the double 0, whose bits are all 0
 abbrev pub zeroDouble : Float

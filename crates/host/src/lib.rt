@@ -2,12 +2,13 @@
 ghost use mathlib.Core.Path.{_≡_};
 ghost use Rattle.scenario_theory.specs.Refusal.{refusalOf};
 ghost use Rattle.record_theory.specs.Outcome.{scenarioIn, readRefusal, readOf, writeOf, lentAfter};
-ghost use Rattle.engine_theory.specs.Evaluation.{answerOf, recordAnswerOf, SmallAnswer, inDoubles};
-ghost use Rattle.host.specs.Told.{scenarioFrom, told, toldDoubles, toldReading, toldWriting};
+ghost use Rattle.engine_theory.specs.Evaluation.{answerOf, recordAnswerOf, inDoubles};
+ghost use Rattle.engine_theory.specs.Flat.{told};
+ghost use Rattle.host.specs.Told.{scenarioFrom, toldDoubles, toldReading, toldWriting};
 ghost use Rattle.host.specs.Promise.{HostAnswerPromise, HostDoublesPromise, HostReadingPromise};
 ghost use Rattle.host.specs.Promise.{HostWritingPromise};
-use engine_theory::Answer;
 use engine_theory::DoublesAnswer;
+use engine_theory::FlatAnswer;
 use record_theory::Reading;
 use record_theory::Writing;
 use scenario_theory::Scenario;
@@ -24,17 +25,6 @@ pub struct HostScenario {
     pub velocity: u16,
     pub mechanism: u8,
     pub period: u16,
-}
-
-// An answer: number 0 and the low and high ends of the median and of sigma, natural logarithms in units of 10^-9; or
-// the number of the refusal, and zeros for the ends.
-#[repr(C)]
-pub struct HostAnswer {
-    pub number: u8,
-    pub median_low: i64,
-    pub median_high: i64,
-    pub sigma_low: i64,
-    pub sigma_high: i64,
 }
 
 // The same with the ends as doubles that equal the whole numbers, still in units of 10^-9.
@@ -76,28 +66,6 @@ fn scenario_from(s: HostScenario) -> Scenario
     }
 }
 
-fn tell(a: Answer) -> HostAnswer
-    requires { ⌜ SmallAnswer a ⌝ }
-    ensures { λ r. ⌜ r ≡ told a ⌝ }
-{
-    match a {
-        Answer::Enclosed(e) => HostAnswer {
-            number: 0,
-            median_low: e.median.low,
-            median_high: e.median.high,
-            sigma_low: e.sigma.low,
-            sigma_high: e.sigma.high,
-        },
-        Answer::Refused(number) => HostAnswer {
-            number,
-            median_low: 0,
-            median_high: 0,
-            sigma_low: 0,
-            sigma_high: 0,
-        },
-    }
-}
-
 fn tell_doubles(a: DoublesAnswer) -> HostDoubles
     ensures { λ r. ⌜ r ≡ toldDoubles a ⌝ }
 {
@@ -130,20 +98,20 @@ pub extern "C" fn fusnoch_refusal(s: HostScenario) -> u8
 // Answers a scenario of any fields: by Idriss 2014 the median's ends enclose its exact logarithm at most 100 units
 // apart, sigma's at most 10; by Boore and Atkinson 2008 at most 2,000 apart, and sigma's are equal.
 #[no_mangle]
-pub extern "C" fn fusnoch_answer_fields(s: HostScenario) -> HostAnswer
+pub extern "C" fn fusnoch_answer_fields(s: HostScenario) -> FlatAnswer
     ensures { λ r. ⌜ r ≡ told (answerOf (scenarioFrom s)) ⌝ }
     ensures { λ r. ⌜ HostAnswerPromise (refusalOf (scenarioFrom s)) (scenarioFrom s) r ⌝ }
 {
-    tell(engine::answer_fields(scenario_from(s)))
+    flat::answer_fields(scenario_from(s))
 }
 
 // Answers the record at the front of any bytes in the same way, or with the number with which reading turns it away.
 #[no_mangle]
-pub extern "C" fn fusnoch_answer_record(bytes: &[u8]) -> HostAnswer
+pub extern "C" fn fusnoch_answer_record(bytes: &[u8]) -> FlatAnswer
     ensures { λ r. ⌜ r ≡ told (recordAnswerOf (now (bytes .entry))) ⌝ }
     ensures { λ r. ⌜ HostAnswerPromise (readRefusal (now (bytes .entry))) (scenarioIn (now (bytes .entry))) r ⌝ }
 {
-    tell(engine::answer_record(bytes))
+    flat::answer_record(bytes)
 }
 
 // Answers a scenario of any fields in doubles, each equal to its whole number.

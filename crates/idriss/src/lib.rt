@@ -1,20 +1,24 @@
 // The median and sigma of Idriss 2014, each by two ends that enclose the exact value, in units of 10^-9.
 ghost use mathlib.Core.Path.{_≡_};
-ghost use mathlib.Core.Bool.{true};
-ghost use Prim.Native.Nat.{_≤_};
-ghost use Rattle.toolbox_theory.specs.Lists.{among};
-ghost use Rattle.outward_theory.specs.Evaluation.{Sized};
-ghost use Rattle.scenario_theory.specs.Refusal.{idriss};
+ghost use Prim.Native.Nat.{_≤_, _<_};
+ghost use Rattle.interval_theory.specs.Bound.{Sized};
+ghost use Rattle.logarithm_theory.specs.Promise.{lnWidth};
+ghost use Rattle.logarithm_theory.specs.Bound.{lnMost};
+ghost use Rattle.scenario_theory.specs.Rows.{idrissRow, rowCount};
 ghost use Rattle.idriss_theory.specs.Tables.{takesTable3};
 ghost use Rattle.idriss_theory.specs.Rows.{rowAt, RowLimits};
 ghost use Rattle.idriss_theory.specs.Median.{F};
 ghost use Rattle.idriss_theory.specs.Sigma.{clamp};
 ghost use Rattle.idriss_theory.specs.Promise.{MedianDomain, MedianEnds, SigmaDomain, SigmaEnds};
-ghost use Rattle.idriss_theory.specs.Evaluation.{AlphaDomain, alphaSum, gainsOf, lossesOf, distanceTermOf};
-ghost use Rattle.idriss_theory.specs.Evaluation.{siteTermOf, medianOf, periodTermOf, sigmaOf};
+ghost use Rattle.idriss_theory.specs.Evaluation.{AlphaDomain, alphaSum, gainsOf, lossesOf, distanceLnOf, vs30LnOf};
+ghost use Rattle.idriss_theory.specs.Evaluation.{distanceTermOf, siteTermOf, medianPairBy, medianOf, clampedRow};
+ghost use Rattle.idriss_theory.specs.Evaluation.{listedTermOf, sigmaOf};
+ghost use Rattle.idriss_theory.specs.Sizes.{alphaMost, exactMost, distanceTermMost, siteTermMost, periodTermMost};
 use idriss_tables as table;
 use idriss_theory::Row;
-use signed_theory::Ends;
+use interval_theory::Ends;
+use interval_theory::SignedEnds;
+use interval_theory::SignedPair;
 
 // Whether the magnitude takes Table 3, and not Table 2.
 pub fn takes_table_3(magnitude: u16) -> bool
@@ -26,7 +30,7 @@ pub fn takes_table_3(magnitude: u16) -> bool
 // a1 + a2 M + a3 (8.5 − M)², where none of the three is below zero.
 fn alpha_sum(a1: u32, a2: u32, a3: u32, m: u64) -> u64
     requires { ⌜ AlphaDomain a1 a2 a3 m ⌝ }
-    ensures { λ r. ⌜ (r ≡ alphaSum a1 a2 a3 m) × (r ≤ 36_000_000_000) ⌝ }
+    ensures { λ r. ⌜ (r ≡ alphaSum a1 a2 a3 m) × (r ≤ alphaMost) ⌝ }
 {
     let rest = 850 - m;
     100_000 * a1 as u64 + 1_000 * (a2 as u64 * m) + 10 * (a3 as u64 * (rest * rest))
@@ -47,7 +51,7 @@ fn faulting(mechanism: u8) -> u64
 // The parts of α1 + α2 M + α3 (8.5 − M)² + γ R + φ F that are above zero.
 fn gains(r: Row, m: u64, mechanism: u8) -> u64
     requires { ⌜ RowLimits r × (450 ≤ m) × (m ≤ 790) ⌝ }
-    ensures { λ g. ⌜ (g ≡ gainsOf r m mechanism) × (g ≤ 40_000_000_000) ⌝ }
+    ensures { λ g. ⌜ (g ≡ gainsOf r m mechanism) × (g ≤ exactMost) ⌝ }
 {
     alpha_sum(r.0, r.2, r.4, m) + 10_000_000 * (r.10 as u64 * faulting(mechanism))
 }
@@ -55,30 +59,73 @@ fn gains(r: Row, m: u64, mechanism: u8) -> u64
 // Those that are below zero.
 fn losses(r: Row, m: u64, rupture_distance: u64) -> u64
     requires { ⌜ RowLimits r × (450 ≤ m) × (m ≤ 790) × («rupture_distance» ≤ 17_500) ⌝ }
-    ensures { λ l. ⌜ (l ≡ lossesOf r m «rupture_distance») × (l ≤ 40_000_000_000) ⌝ }
+    ensures { λ l. ⌜ (l ≡ lossesOf r m «rupture_distance») × (l ≤ exactMost) ⌝ }
 {
     alpha_sum(r.1, r.3, r.5, m) + 1_000 * (r.9 as u64 * rupture_distance)
 }
 
-// (β1 + β2 M) ln(R + 10).
-fn distance_term(r: Row, m: u64, rupture_distance: u64) -> logarithm_theory::Ends
-    requires { ⌜ RowLimits r × (450 ≤ m) × (m ≤ 790) × («rupture_distance» ≤ 17_500) ⌝ }
-    ensures { λ e. ⌜ (e ≡ distanceTermOf r m «rupture_distance») × Sized e 5 42_000_000_001 ⌝ }
+// ln(R + 10).
+fn distance_ln(rupture_distance: u64) -> Ends
+    requires { ⌜ «rupture_distance» ≤ 17_500 ⌝ }
+    ensures { λ l. ⌜ (l ≡ distanceLnOf «rupture_distance») × Sized l lnWidth lnMost ⌝ }
 {
-    let factor = 2_000 * r.6 as u64 - 20 * (r.7 as u64 * m);
-    outward::multiple(factor, logarithm::ln_hundredths(rupture_distance + 1_000))
+    logarithm::ln_hundredths(rupture_distance + 1_000)
 }
 
-// −ξ ln V; a V above 1200 m/s counts as 1200.
-fn site_term(r: Row, vs30: u16) -> logarithm_theory::Ends
-    requires { ⌜ RowLimits r × (4_500 ≤ vs30) ⌝ }
-    ensures { λ e. ⌜ (e ≡ siteTermOf r vs30) × Sized e 4 31_500_000_001 ⌝ }
+// ln V; a V above 1200 m/s counts as 1200.
+fn vs30_ln(vs30: u64) -> Ends
+    requires { ⌜ 4_500 ≤ vs30 ⌝ }
+    ensures { λ l. ⌜ (l ≡ vs30LnOf vs30) × Sized l lnWidth lnMost ⌝ }
 {
-    let v = outward::min(vs30 as u64, 12_000);
-    outward::multiple(20_000 * r.8 as u64, logarithm::ln(v, 10))
+    logarithm::ln(interval::min(vs30, 12_000), 10)
 }
 
-// The median by row k of Table 3 where `table_3`, else of Table 2.
+// (β1 + β2 M) ln(R + 10), by that logarithm.
+fn distance_term(r: Row, m: u64, l: Ends) -> Ends
+    requires { ⌜ RowLimits r × (450 ≤ m) × (m ≤ 790) × Sized l lnWidth lnMost ⌝ }
+    ensures { λ e. ⌜ (e ≡ distanceTermOf r m l) × Sized e 5 distanceTermMost ⌝ }
+{
+    interval::multiple(2_000 * r.6 as u64 - 20 * (r.7 as u64 * m), l)
+}
+
+// −ξ ln V, by that logarithm.
+fn site_term(r: Row, l: Ends) -> Ends
+    requires { ⌜ RowLimits r × Sized l lnWidth lnMost ⌝ }
+    ensures { λ e. ⌜ (e ≡ siteTermOf r l) × Sized e 4 siteTermMost ⌝ }
+{
+    interval::multiple(20_000 * r.8 as u64, l)
+}
+
+// The median by row k of Table 3 where `table_3`, else of Table 2, as a gain less a loss. What rows have in common is
+// worked out before: ln(R + 10) and ln V.
+pub fn median_by_row(
+    table_3: bool,
+    k: usize,
+    m: u64,
+    d: u64,
+    ln_r: Ends,
+    ln_v: Ends,
+    mechanism: u8,
+) -> SignedPair
+    requires { ⌜ (k < rowCount) × (450 ≤ m) × (m ≤ 790) × (d ≤ 17_500) ⌝ }
+    requires { ⌜ Sized «ln_r» lnWidth lnMost × Sized «ln_v» lnWidth lnMost ⌝ }
+    ensures { λ a. ⌜ a ≡ medianPairBy (rowAt «table_3» k) m d «ln_r» «ln_v» mechanism ⌝ }
+{
+    let r = table::row_at(table_3, k);
+    let far = distance_term(r, m, ln_r);
+    let site = site_term(r, ln_v);
+    let up = gains(r, m, mechanism);
+    let down = losses(r, m, d);
+    SignedPair {
+        gain: Ends { low: up, high: up },
+        loss: Ends {
+            low: down + far.low + site.low,
+            high: down + far.high + site.high,
+        },
+    }
+}
+
+// The median by row k of that table.
 pub fn median(
     table_3: bool,
     k: usize,
@@ -86,24 +133,15 @@ pub fn median(
     rupture_distance: u16,
     vs30: u16,
     mechanism: u8,
-) -> Ends
+) -> SignedEnds
     requires { ⌜ MedianDomain k magnitude «rupture_distance» vs30 ⌝ }
     ensures { λ r. ⌜ r ≡ medianOf (rowAt «table_3» k) magnitude «rupture_distance» vs30 mechanism ⌝ }
     ensures { λ r. ⌜ MedianEnds (rowAt «table_3» k) magnitude «rupture_distance» vs30 mechanism r ⌝ }
 {
-    let r = table::row_at(table_3, k);
-    let m = magnitude as u64;
     let d = rupture_distance as u64;
-    let far = distance_term(r, m, d);
-    let site = site_term(r, vs30);
-    let up = gains(r, m, mechanism);
-    let down = losses(r, m, d);
-    signed::between(
-        up,
-        down + far.high + site.high,
-        up,
-        down + far.low + site.low,
-    )
+    let ln_r = distance_ln(d);
+    let ln_v = vs30_ln(vs30 as u64);
+    interval::ends(median_by_row(table_3, k, magnitude as u64, d, ln_r, ln_v, mechanism))
 }
 
 // x held to the range from low to high.
@@ -120,25 +158,26 @@ fn clamp(low: u16, high: u16, x: u16) -> u16
     x
 }
 
-// The absolute value of 0.035 ln T.
-fn period_term(t: u16) -> logarithm_theory::Ends
-    requires { ⌜ among (idriss .periods) t ≡ true ⌝ }
-    ensures { λ e. ⌜ (e ≡ periodTermOf t) × Sized e 2 735_000_001 ⌝ }
+// The absolute value of 0.035 ln T, T clamped, by the row of the period.
+fn period_term(k: usize) -> Ends
+    requires { ⌜ k < rowCount ⌝ }
+    ensures { λ e. ⌜ (e ≡ listedTermOf (clampedRow k)) × Sized e 2 periodTermMost ⌝ }
 {
-    outward::multiple(700_000, table::period_logarithm(t))
+    let row = clamp(4, 17, k as u16) as usize;
+    interval::multiple(700_000, table::period_logarithm(row))
 }
 
-// 1.18 + 0.035 ln T − 0.06 M, T the period.
-pub fn sigma(period: u16, magnitude: u16) -> Ends
-    requires { ⌜ SigmaDomain period ⌝ }
+// 1.18 + 0.035 ln T − 0.06 M, T the period, which has row k.
+pub fn sigma(k: usize, period: u16, magnitude: u16) -> SignedEnds
+    requires { ⌜ SigmaDomain period × (k ≡ idrissRow period) ⌝ }
     ensures { λ r. ⌜ r ≡ sigmaOf period magnitude ⌝ }
     ensures { λ r. ⌜ SigmaEnds period magnitude r ⌝ }
 {
     let m = 600_000 * clamp(500, 750, magnitude) as u64;
     let t = clamp(50, 3_000, period);
-    let term = period_term(t);
+    let term = period_term(k);
     if t < 1_000 {
-        return signed::between(1_180_000_000, m + term.high, 1_180_000_000, m + term.low);
+        return interval::between(1_180_000_000, m + term.high, 1_180_000_000, m + term.low);
     }
-    signed::between(1_180_000_000 + term.low, m, 1_180_000_000 + term.high, m)
+    interval::between(1_180_000_000 + term.low, m, 1_180_000_000 + term.high, m)
 }

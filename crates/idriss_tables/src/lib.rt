@@ -2,19 +2,15 @@
 // logarithms of the periods. The compiler stores a const array on the stack unless it knows every place that is read;
 // it unrolls the loop that looks for a row, and so reads constant data.
 ghost use mathlib.Core.Path.{_≡_};
-ghost use mathlib.Core.Bool.{true, cond};
+ghost use mathlib.Core.Bool.{cond};
 ghost use mathlib.Core.List.{map};
 ghost use Prim.Native.Nat.{_<_};
-ghost use Rattle.toolbox_theory.specs.Lists.{among};
-ghost use Rattle.logarithm_theory.specs.Promise.{lnWidth};
-ghost use Rattle.outward_theory.specs.Evaluation.{Sized};
-ghost use Rattle.scenario_theory.specs.Refusal.{idriss};
 ghost use Rattle.scenario_theory.specs.Rows.{rowCount};
 ghost use Rattle.idriss_theory.specs.Tables.{table2, table3};
 ghost use Rattle.idriss_theory.specs.Rows.{rowAt, parts, RowLimits};
-ghost use Rattle.idriss_theory.specs.Periods.{listedAt, periodLogarithm};
+ghost use Rattle.idriss_theory.specs.Periods.{listedAt};
 use idriss_theory::Row;
-use logarithm_theory::Ends;
+use interval_theory::Ends;
 
 // Table 2, M up to and including 6.75: α1, −α1, α2, −α2, α3, −α3, β1, −β2, −ξ, −γ, φ.
 const TABLE_2: [Row; 22] = [
@@ -105,7 +101,7 @@ pub fn row_at(table_3: bool, k: usize) -> Row
 }
 
 // The absolute value of ln T of the period in row k: two ends in units of 10^-9.
-fn listed(k: usize) -> Ends
+pub fn period_logarithm(k: usize) -> Ends
     requires { ⌜ k < rowCount ⌝ }
     ensures { λ r. ⌜ r ≡ listedAt k ⌝ }
 {
@@ -196,12 +192,4 @@ fn listed(k: usize) -> Ends
             high: 2_302_585_094,
         },
     }
-}
-
-// The absolute value of the logarithm of a tabled period, in thousandths of a second.
-pub fn period_logarithm(t: u16) -> Ends
-    requires { ⌜ among (idriss .periods) t ≡ true ⌝ }
-    ensures { λ r. ⌜ (r ≡ periodLogarithm t) × Sized r lnWidth 21_000_000_000 ⌝ }
-{
-    listed(scenario_rows::idriss_row(t))
 }

@@ -6,25 +6,27 @@ use native.Mathlib.Omega.{arith}
 use lib.IntN.{pos}
 use Rattle.toolbox_theory.specs.Whole.{up, down}
 use Rattle.exact_theory.specs.Fraction.{_over_, _+q_, _-q_, _*q_}
-use Rattle.exact_theory.specs.Pair.{_∈_}
 use Rattle.exact_theory.specs.Formula.{ln, lnQ, ends}
 use Rattle.exact_theory.proofs.FractionLaws.{Is, over-Is, add-Is, mul-Is, neg-Is, is-natural, num-Is, num-above}
 use Rattle.exact_theory.proofs.FractionLaws.{num-below}
 use Rattle.exact_theory.proofs.AlgebraLaws.{written}
 use Rattle.exact_theory.proofs.Points.{Points, value, Sound, lnQ-is}
-use Rattle.exact_theory.proofs.UnitLaws.{Lies, lies-natural, lies-stated, lies-sum, lies-difference}
-use Rattle.signed_theory.specs.declared.Ends.{Ends}
-use Rattle.signed_theory.specs.Evaluation.{betweenOf}
-use Rattle.signed_theory.proofs.Laws.{between-small}
-use Rattle.logarithm_theory.specs.declared.Ends as natural
-use Rattle.logarithm_theory.proofs.Enclosure.{Known, encloses}
-use Rattle.outward_theory.proofs.Laws.{Held, HeldBelow, multiple-held, minus-held, lies-between, narrow-between}
+use Rattle.exact_theory.proofs.UnitLaws.{Lies, lies-natural, lies-stated, lies-wider, lies-sum, lies-difference}
+use Rattle.interval_theory.specs.declared.SignedPair.{SignedPair}
+use Rattle.interval_theory.specs.Natural.{sumOf}
+use Rattle.interval_theory.specs.Bound.{SignedSized}
+use Rattle.interval_theory.proofs.SignedBounds.{signed-wider, pair-of, ends-narrow, ends-small}
+use Rattle.interval_theory.proofs.NaturalBounds.{fitting, exactly-within, sum-within}
+use Rattle.interval_theory.proofs.NaturalValues.{Held, HeldBelow, multiple-held, minus-held}
+use Rattle.logarithm_theory.proofs.Bounds.{ln-sized}
+use Rattle.logarithm_theory.proofs.Enclosure.{Known, AtPoints, encloses, PairAtPoints, at-ends}
 use Rattle.idriss_theory.specs.Tables.{Row}
 use Rattle.idriss_theory.specs.Rows.{rowAt, parts, TableLimits}
 use Rattle.idriss_theory.specs.Median.{alphaPart, betaFactor, F, median}
 use Rattle.idriss_theory.specs.Promise.{MedianDomain, medianWidth, MedianEnds}
-use Rattle.idriss_theory.specs.Evaluation.{alphaSum, betaOf, gainsOf, lossesOf, vs30Cap}
-use Rattle.idriss_theory.specs.Evaluation.{distanceTermOf, siteTermOf, medianOf}
+use Rattle.idriss_theory.specs.Evaluation.{alphaSum, betaOf, gainsOf, lossesOf, vs30Cap, distanceLnOf, vs30LnOf}
+use Rattle.idriss_theory.specs.Evaluation.{distanceTermOf, siteTermOf, medianPairBy, medianPairOf, medianOf}
+use Rattle.idriss_theory.specs.Sizes.{exactMost, pairMost}
 use Rattle.idriss_theory.proofs.Rows.{row-limits}
 use Rattle.idriss_theory.proofs.Bounds.{gains-small, losses-small, beta-bounds, far-domain, site-domain}
 use Rattle.idriss_theory.proofs.Bounds.{distance-sized, site-sized}
@@ -95,14 +97,14 @@ module _ (r : Row) (l : TableLimits r) where
 
   module _ {σ : Points} (known : Known σ) where
     far-held : {m d : ℕ} → 450 ≤ m → m ≤ 790 → d ≤ 17_500 →
-        Held (betaFactor r (pos m over 100) *q σ .lnAt (d + 1_000) 100) (distanceTermOf (parts r) m d)
+        Held (betaFactor r (pos m over 100) *q σ .lnAt (d + 1_000) 100) (distanceTermOf (parts r) m (distanceLnOf d))
     unfolding distanceTermOf
     far-held {m} {d} low high near =
         multiple-held (500 * betaOf (parts r) m) 10_000_000_000 (betaOf (parts r) m) (omega arith)
         (lies-natural _ _ (known .ln-within (far-domain near))) (beta-Is low high)
 
     site-held : {v : ℕ} → 4_500 ≤ v →
-        HeldBelow (r .ξ *q σ .lnAt (min v vs30Cap) 10) (siteTermOf (parts r) v)
+        HeldBelow (r .ξ *q σ .lnAt (min v vs30Cap) 10) (siteTermOf (parts r) (vs30LnOf v))
     unfolding siteTermOf
     site-held {v} slow =
         minus-held (down (r .ξ .num)) 1_000 (20_000 * down (r .ξ .num)) (omega arith)
@@ -111,29 +113,6 @@ module _ (r : Row) (l : TableLimits r) where
   -- ---- the median
 
   module _ {m d v : ℕ} (low : 450 ≤ m) (high : m ≤ 790) (near : d ≤ 17_500) (slow : 4_500 ≤ v) (mechanism : ℕ) where
-    abbrev far : natural.Ends
-    far = distanceTermOf (parts r) m d
-
-    abbrev site : natural.Ends
-    site = siteTermOf (parts r) v
-
-    abbrev gain : ℕ
-    gain = gainsOf (parts r) m mechanism
-
-    abbrev loss : ℕ
-    loss = lossesOf (parts r) m d
-
-    abbrev own : Ends
-    own = betweenOf gain (loss + far .high + site .high) gain (loss + far .low + site .low)
-
-    median-held : (σ : Points) → Known σ → value σ (median r m d v mechanism) ∈ ends (own .low) (own .high)
-    unfolding median value gainsOf lossesOf
-    median-held σ known =
-        rw (far-ln, site-ln) (lies-between (lies-sum (lies-sum
-        (lies-sum (lies-difference (alpha-lies high) (far-held known low high near)) (site-held known slow))
-        (anelastic-lies d)) (fault-lies mechanism)) gain (loss + far .high + site .high) gain
-        (loss + far .low + site .low) (omega arith) (omega arith))
-
     median-sound : Sound (median r m d v mechanism)
     unfolding median Sound
     median-sound =
@@ -142,26 +121,52 @@ module _ (r : Row) (l : TableLimits r) where
         rw (far-ln, site-ln)
         ((((tt, (tt, (omega arith, omega arith))), (tt, (omega arith, omega arith))), tt), tt)
 
-    pub median-ends : MedianEnds r m d v mechanism (medianOf r m d v mechanism)
-    unfolding medianOf
-    median-ends =
-        let far-sizes = distance-sized (l .sizes) low high near in
-        let site-sizes = site-sized (l .sizes) slow in
-        let gains = gains-small (l .sizes) high mechanism in
-        let losses = losses-small (l .sizes) high near in
-        record {
-          encloses =
-              encloses median-sound median-held;
-          narrow =
-              narrow-between gain (loss + far .high + site .high) gain (loss + far .low + site .low) medianWidth
-              (omega arith);
-          small =
-              between-small (2 ^ 53) (omega arith) (omega arith) (omega arith) (omega arith);
-        }
+    pub median-at : PairAtPoints (median r m d v mechanism) (medianPairOf r m d v mechanism)
+    unfolding median value medianPairBy gainsOf lossesOf sumOf
+    median-at = record {
+      sound = median-sound;
+      held = λ σ known.
+          rw (far-ln, site-ln) (lies-wider (lies-sum (lies-sum
+          (lies-sum (lies-difference (alpha-lies high) (far-held known low high near)) (site-held known slow))
+          (anelastic-lies d)) (fault-lies mechanism)) _ _ _ _ (omega arith) (omega arith));
+    }
 
--- the promise of the median, by any row of either table
-pub medianOf-promise : (isTable3 : Bool) {k m d v : ℕ} (mechanism : ℕ) → MedianDomain k m d v →
-    MedianEnds (rowAt isTable3 k) m d v mechanism (medianOf (rowAt isTable3 k) m d v mechanism)
-medianOf-promise isTable3 {k} mechanism h =
-    median-ends (rowAt isTable3 k) (row-limits isTable3 k (h .row)) (h .magnitude-low) (h .magnitude-high) (h .near)
-    (h .slow) mechanism
+    pub median-sized : SignedSized (medianPairOf r m d v mechanism) medianWidth pairMost
+    unfolding medianPairBy
+    median-sized =
+        signed-wider (pair-of (exactly-within exactMost (gains-small (l .sizes) high mechanism))
+        (sum-within (sum-within (exactly-within exactMost (losses-small (l .sizes) high near))
+        (distance-sized (l .sizes) low high (ln-sized (far-domain near))))
+        (site-sized (l .sizes) (ln-sized (site-domain slow))))) (fitting tt)
+
+-- ---- by any row of either table
+
+module _ (isTable3 : Bool) {k m d v : ℕ} (mechanism : ℕ) (h : MedianDomain k m d v) where
+  abbrev pair : SignedPair
+  pair = medianPairOf (rowAt isTable3 k) m d v mechanism
+
+  pub medianPairOf-at-points : PairAtPoints (median (rowAt isTable3 k) m d v mechanism) pair
+  medianPairOf-at-points =
+      median-at (rowAt isTable3 k) (row-limits isTable3 k (h .row)) (h .magnitude-low) (h .magnitude-high) (h .near)
+      (h .slow) mechanism
+
+  pub medianPairOf-sized : SignedSized pair medianWidth pairMost
+  medianPairOf-sized =
+      median-sized (rowAt isTable3 k) (row-limits isTable3 k (h .row)) (h .magnitude-low) (h .magnitude-high) (h .near)
+      (h .slow) mechanism
+
+  -- at points: what the median comes to lies within the ends, wherever its logarithms lie within theirs
+  pub medianOf-at-points :
+      let e = medianOf (rowAt isTable3 k) m d v mechanism in
+      AtPoints (median (rowAt isTable3 k) m d v mechanism) (ends (e .low) (e .high))
+  unfolding medianOf
+  medianOf-at-points = at-ends pair medianPairOf-at-points
+
+  -- the promise
+  pub medianOf-promise : MedianEnds (rowAt isTable3 k) m d v mechanism (medianOf (rowAt isTable3 k) m d v mechanism)
+  unfolding medianOf
+  medianOf-promise = record {
+    encloses = encloses medianOf-at-points;
+    narrow = ends-narrow pair medianWidth medianPairOf-sized (omega arith);
+    small = ends-small pair (2 ^ 53) medianPairOf-sized (omega arith);
+  }

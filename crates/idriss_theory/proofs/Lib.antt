@@ -1,7 +1,7 @@
 pub mod Rows
 pub mod Bounds
 pub mod Listed
-pub mod Sums
 pub mod Laws
 pub mod SigmaLaws
 pub mod Accepted
+pub mod Ranges

@@ -7,18 +7,21 @@ use native.Mathlib.Omega.{arith}
 use lib.Count.{leadingZeros}
 use lib.Dec.{T, eqb, ltb, leb, eqb→eq, ltb→lt, leb→le}
 use Rattle.toolbox_theory.specs.Lists.{among}
-use Rattle.toolbox_theory.proofs.Tests.{and-left, and-right}
+use Rattle.toolbox_theory.proofs.Tests.{and-left, and-right, allBelow, below}
 use Rattle.toolbox_theory.proofs.ListLaws.{all, all-at}
+use Rattle.interval_theory.specs.declared.Ends.{Ends}
+use Rattle.interval_theory.specs.Bound.{size, Sized, _fits_, pairBound}
+use Rattle.interval_theory.proofs.NaturalBounds.{fitting, wider, pair-within}
+use Rattle.interval_theory.proofs.Bounded.{given, multiple, at-most}
 use Rattle.logarithm_tables_theory.specs.Tables.{coarseAt, fineAt}
-use Rattle.logarithm_theory.specs.declared.Ends.{Ends}
 use Rattle.logarithm_theory.specs.Promise.{LnDomain, lnWidth}
+use Rattle.logarithm_theory.specs.Bound.{lnMost}
 use Rattle.logarithm_theory.specs.Evaluation.{scaledOf, nearOneOf, mantissaLnOf, scaledLnOf, lnOf}
-use Rattle.outward_theory.specs.Evaluation.{Sized}
-use Rattle.outward_theory.proofs.Laws.{ln-sized, multiple-sized}
 use Rattle.scenario_theory.specs.Refusal.{idriss}
 use Rattle.scenario_theory.specs.Rows.{idrissRow, rowCount}
 use Rattle.idriss_theory.specs.Periods.{listedAt, periodLogarithm}
-use Rattle.idriss_theory.specs.Evaluation.{periodTermOf, clampedPeriod}
+use Rattle.idriss_theory.specs.Sizes.{periodTermMost}
+use Rattle.idriss_theory.specs.Evaluation.{listedTermOf, clampedPeriod, clampedRow}
 
 -- the engine's ends of the absolute value of ln T, T in thousandths
 abbrev pub ownLn : ℕ → Ends
@@ -43,7 +46,7 @@ abbrev listed : ℕ → Bool
 listed t = ltb (idrissRow t) rowCount && ((leb 1 t && leb t 10_000) && same (periodLogarithm t) (ownLn t))
 
 all-listed : T (all listed (idriss .periods))
-unfolding periodLogarithm listedAt idrissRow lnOf scaledOf scaledLnOf mantissaLnOf nearOneOf coarseAt fineAt
+unfolding listedAt idrissRow lnOf scaledOf scaledLnOf mantissaLnOf nearOneOf coarseAt fineAt
     leadingZeros
 all-listed = tt
 
@@ -57,15 +60,23 @@ period-listed t e =
     record {
       row = ltb→lt (idrissRow t) rowCount (and-left (ltb (idrissRow t) rowCount) _ p);
       is = same-is (periodLogarithm t) (ownLn t) (and-right (leb 1 t && leb t 10_000) _ rest);
-      domain = record { least = omega arith; order = omega arith; small = omega arith };
+      domain = omega arith;
     }
 
-pub listed-sized : {t : ℕ} → Listed t → Sized (periodLogarithm t) lnWidth 21_000_000_000
-listed-sized l = rw (l .is) (ln-sized (l .domain))
+-- how wide and how large an entry is, and the term that it gives
+abbrev fitting-at : ℕ → Bool
+fitting-at k = leb (listedAt k .low) (listedAt k .high) && pairBound (listedAt k) fits size lnWidth lnMost
 
-pub term-sized : {t : ℕ} → Listed t → Sized (periodTermOf t) 2 735_000_001
-unfolding periodTermOf
-term-sized l = multiple-sized 700_000 (listed-sized l) 1 735_000_000 (omega arith) (omega arith)
+pub listed-sized : (k : ℕ) → k < rowCount → Sized (listedAt k) lnWidth lnMost
+unfolding allBelow listedAt
+listed-sized k h =
+    let t = below rowCount fitting-at tt k h in
+    wider (pair-within (listedAt k) (and-left (leb (listedAt k .low) (listedAt k .high)) _ t))
+    (fitting (and-right (leb (listedAt k .low) (listedAt k .high)) _ t))
+
+pub term-sized : (k : ℕ) → k < rowCount → Sized (listedTermOf k) 2 periodTermMost
+unfolding listedTermOf
+term-sized k h = at-most (multiple 700_000 (omega arith) (given (listed-sized k h))) (size 2 periodTermMost) tt
 
 -- 0 or a tabled period, held to the range of sigma, is a tabled period
 abbrev stays : ℕ → Bool
@@ -80,3 +91,12 @@ truly false t = absurd t
 
 pub clamped-tabled : (t : ℕ) → among (0 ∷ idriss .periods) t ≡ true → among (idriss .periods) (clampedPeriod t) ≡ true
 clamped-tabled t e = truly (stays t) (all-at stays (0 ∷ idriss .periods) t stays-tabled e)
+
+-- and its row is the clamped row
+abbrev row-stays : ℕ → Bool
+row-stays t = eqb (idrissRow (clampedPeriod t)) (clampedRow (idrissRow t))
+
+pub clamped-row : (t : ℕ) → among (0 ∷ idriss .periods) t ≡ true →
+    idrissRow (clampedPeriod t) ≡ clampedRow (idrissRow t)
+unfolding idrissRow
+clamped-row t e = eqb→eq _ _ (all-at row-stays (0 ∷ idriss .periods) t tt e)

@@ -4,8 +4,8 @@ use mathlib.Core.Path.{_≡_, refl}
 use mathlib.Core.Bool.{Bool, true, false, false≢true, cond}
 use mathlib.Core.List.{List, [], _∷_, map}
 use Prim.Native.Nat.{ℕ, _+_, _*_, _<_}
-use native.Mathlib.Omega.{arith}
 use borrow.Author.Tests.{eqb-true}
+use borrow.Author.Needs.{needs}
 use lib.Dec.{eqb}
 use Rattle.toolbox_theory.specs.Whole.{up, down}
 use Rattle.toolbox_theory.specs.Lists.{among, lookup}
@@ -31,37 +31,7 @@ limits r =
     (r .β2 .den, 10_000) ∷ (r .ξ .den, 1_000) ∷ (r .γ .den, 10_000) ∷ (r .φ .den, 100) ∷ [])
 
 in-order : (r : Row) → AllLe (limits r) → TableLimits r
-in-order r h = record {
-  sizes = record {
-    alpha1-gain = omega arith;
-    alpha1-loss = omega arith;
-    alpha2-gain = omega arith;
-    alpha2-loss = omega arith;
-    alpha3-gain = omega arith;
-    alpha3-loss = omega arith;
-    beta1 = omega arith;
-    beta-least = omega arith;
-    beta-most = omega arith;
-    xi = omega arith;
-    gamma = omega arith;
-    phi = omega arith;
-  };
-  decimals = record {
-    alpha1 = omega arith;
-    alpha2 = omega arith;
-    alpha3 = omega arith;
-    beta1 = omega arith;
-    beta2 = omega arith;
-    xi = omega arith;
-    gamma = omega arith;
-    phi = omega arith;
-  };
-  beta1-above = omega arith;
-  beta2-below = omega arith;
-  xi-below = omega arith;
-  gamma-below = omega arith;
-  phi-above = omega arith;
-}
+in-order r h = search needs
 
 tables-within : (isTable3 : Bool) → WithinLimits limits (cond isTable3 table3 table2)
 unfolding up down _over_

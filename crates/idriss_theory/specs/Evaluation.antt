@@ -3,16 +3,18 @@
 use mathlib.Core.Bool.{cond}
 use Prim.Native.Nat.{ℕ, _+_, _*_, _-_, _≤_, min}
 use lib.Dec.{ltb}
-use Rattle.signed_theory.specs.declared.Ends.{Ends}
-use Rattle.signed_theory.specs.Evaluation.{betweenOf}
-use Rattle.logarithm_theory.specs.declared.Ends as natural
+use Rattle.interval_theory.specs.declared.SignedEnds.{SignedEnds}
+use Rattle.interval_theory.specs.declared.Ends.{Ends}
+use Rattle.interval_theory.specs.declared.SignedPair.{SignedPair}
+use Rattle.interval_theory.specs.Signed.{endsOf}
+use Rattle.interval_theory.specs.Natural.{exactly, multipleOf, sumOf}
 use Rattle.logarithm_theory.specs.Evaluation.{lnOf}
-use Rattle.outward_theory.specs.Evaluation.{multipleOf}
+use Rattle.scenario_theory.specs.Rows.{idrissRow}
 use Rattle.idriss_theory.specs.declared.Row as code
 use Rattle.idriss_theory.specs.Tables.{Row}
 use Rattle.idriss_theory.specs.Median.{F}
 use Rattle.idriss_theory.specs.Sigma.{clamp}
-use Rattle.idriss_theory.specs.Periods.{periodLogarithm}
+use Rattle.idriss_theory.specs.Periods.{listedAt}
 use Rattle.idriss_theory.specs.Rows.{parts}
 
 -- ---- the median
@@ -44,21 +46,34 @@ lossesOf r m ruptureDistance = alphaSum (r .1) (r .3) (r .5) m + 1_000 * (r .9 *
 abbrev pub vs30Cap : ℕ
 vs30Cap = 12_000
 
--- (β1 + β2 M) ln(R + 10), and −ξ ln V
-unfoldable pub distanceTermOf : code.Row → ℕ → ℕ → natural.Ends
-distanceTermOf r m ruptureDistance = multipleOf (betaOf r m) (lnOf (ruptureDistance + 1_000) 100)
+-- ln(R + 10) and ln V, which all rows have in common
+abbrev pub distanceLnOf : ℕ → Ends
+distanceLnOf ruptureDistance = lnOf (ruptureDistance + 1_000) 100
 
-unfoldable pub siteTermOf : code.Row → ℕ → natural.Ends
-siteTermOf r vs30 = multipleOf (20_000 * r .8) (lnOf (min vs30 vs30Cap) 10)
+abbrev pub vs30LnOf : ℕ → Ends
+vs30LnOf vs30 = lnOf (min vs30 vs30Cap) 10
 
-unfoldable pub medianOf : Row → ℕ → ℕ → ℕ → ℕ → Ends
-medianOf row m d v mechanism =
+-- (β1 + β2 M) ln(R + 10), and −ξ ln V, by these logarithms
+unfoldable pub distanceTermOf : code.Row → ℕ → Ends → Ends
+distanceTermOf r m l = multipleOf (betaOf r m) l
+
+unfoldable pub siteTermOf : code.Row → Ends → Ends
+siteTermOf r l = multipleOf (20_000 * r .8) l
+
+-- the median as a gain less a loss, by these logarithms and of a distance and a V_S30, and its ends
+unfoldable pub medianPairBy : Row → ℕ → ℕ → Ends → Ends → ℕ → SignedPair
+medianPairBy row m d lnR lnV mechanism =
     let r : code.Row = parts row in
-    let far : natural.Ends = distanceTermOf r m d in
-    let site : natural.Ends = siteTermOf r v in
-    let gain : ℕ = gainsOf r m mechanism in
-    let loss : ℕ = lossesOf r m d in
-    betweenOf gain (loss + far .high + site .high) gain (loss + far .low + site .low)
+    record {
+      gain = exactly (gainsOf r m mechanism);
+      loss = sumOf (sumOf (exactly (lossesOf r m d)) (distanceTermOf r m lnR)) (siteTermOf r lnV);
+    }
+
+abbrev pub medianPairOf : Row → ℕ → ℕ → ℕ → ℕ → SignedPair
+medianPairOf row m d v mechanism = medianPairBy row m d (distanceLnOf d) (vs30LnOf v) mechanism
+
+unfoldable pub medianOf : Row → ℕ → ℕ → ℕ → ℕ → SignedEnds
+medianOf row m d v mechanism = endsOf (medianPairOf row m d v mechanism)
 
 -- ---- sigma
 
@@ -69,16 +84,33 @@ clampedMagnitude magnitude = clamp 500 750 magnitude
 abbrev pub clampedPeriod : ℕ → ℕ
 clampedPeriod period = clamp 50 3_000 period
 
--- 0.035 ln T, T clamped
-unfoldable pub periodTermOf : ℕ → natural.Ends
-periodTermOf t = multipleOf 700_000 (periodLogarithm t)
+-- T's row, clamped with it: 0.05 s has row 4, and 3 s row 17
+abbrev pub clampedRow : ℕ → ℕ
+clampedRow k = clamp 4 17 k
 
--- 1.18 + 0.035 ln T − 0.06 M
-unfoldable pub sigmaOf : ℕ → ℕ → Ends
-sigmaOf period magnitude =
-    let m : ℕ = 600_000 * clampedMagnitude magnitude in
-    let t : ℕ = clampedPeriod period in
-    let term : natural.Ends = periodTermOf t in
-    cond (ltb t 1_000)
-    (betweenOf 1_180_000_000 (m + term .high) 1_180_000_000 (m + term .low))
-    (betweenOf (1_180_000_000 + term .low) m (1_180_000_000 + term .high) m)
+-- 0.035 ln T of the period in row k, and of a tabled T
+unfoldable pub listedTermOf : ℕ → Ends
+listedTermOf k = multipleOf 700_000 (listedAt k)
+
+abbrev pub periodTermOf : ℕ → Ends
+periodTermOf t = listedTermOf (idrissRow t)
+
+-- 1.18, and 0.06 M
+abbrev pub constantTerm : ℕ
+constantTerm = 1_180_000_000
+
+abbrev pub magnitudeTermOf : ℕ → ℕ
+magnitudeTermOf m = 600_000 * m
+
+-- 1.18 + 0.035 ln T − 0.06 M as a gain less a loss, and its ends
+unfoldable pub sigmaPairOf : ℕ → ℕ → SignedPair
+sigmaPairOf period magnitude =
+    let constant : Ends = exactly constantTerm in
+    let m : Ends = exactly (magnitudeTermOf (clampedMagnitude magnitude)) in
+    let term : Ends = periodTermOf (clampedPeriod period) in
+    cond (ltb (clampedPeriod period) 1_000)
+    record { gain = constant; loss = sumOf m term }
+    record { gain = sumOf constant term; loss = m }
+
+unfoldable pub sigmaOf : ℕ → ℕ → SignedEnds
+sigmaOf period magnitude = endsOf (sigmaPairOf period magnitude)

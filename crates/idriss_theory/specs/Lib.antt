@@ -5,3 +5,5 @@ pub mod Periods
 pub mod Rows
 pub mod Evaluation
 pub mod Promise
+pub mod Sizes
+pub mod Ranges

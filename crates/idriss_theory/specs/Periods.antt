@@ -3,7 +3,7 @@
 use mathlib.Core.List.{List, [], _∷_}
 use Prim.Native.Nat.{ℕ}
 use lib.ListN.{getD}
-use Rattle.logarithm_theory.specs.declared.Ends.{Ends}
+use Rattle.interval_theory.specs.declared.Ends.{Ends}
 use Rattle.scenario_theory.specs.Rows.{idrissRow}
 
 abbrev pair : ℕ → ℕ → Ends
@@ -41,5 +41,5 @@ unfoldable pub listedAt : ℕ → Ends
 listedAt k = getD periodLogarithms k (pair 0 0)
 
 -- that of a tabled period, in thousandths of a second
-unfoldable pub periodLogarithm : ℕ → Ends
+abbrev pub periodLogarithm : ℕ → Ends
 periodLogarithm t = listedAt (idrissRow t)

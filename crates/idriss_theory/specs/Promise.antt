@@ -8,8 +8,8 @@ use lib.IntN.{pos, _+ℤ_}
 use lib.Signed.{_≤ℤ_}
 use Rattle.toolbox_theory.specs.Lists.{among}
 use Rattle.exact_theory.specs.Formula.{ends, Encloses}
-use Rattle.signed_theory.specs.declared.Ends.{Ends}
-use Rattle.signed_theory.specs.Evaluation.{SmallerThan}
+use Rattle.interval_theory.specs.declared.SignedEnds.{SignedEnds}
+use Rattle.interval_theory.specs.Signed.{SmallerThan}
 use Rattle.scenario_theory.specs.Refusal.{idriss}
 use Rattle.scenario_theory.specs.Rows.{rowCount}
 use Rattle.idriss_theory.specs.Tables.{Row}
@@ -37,13 +37,13 @@ abbrev pub sigmaWidth : ℕ
 sigmaWidth = 2
 
 -- e encloses the median by the row r, at every fineness, is narrow, and has ends that a double equals
-pub record MedianEnds (r : Row) (magnitude ruptureDistance vs30 mechanism : ℕ) (e : Ends) : Type 0 where
+pub record MedianEnds (r : Row) (magnitude ruptureDistance vs30 mechanism : ℕ) (e : SignedEnds) : Type 0 where
   pub encloses : Encloses (ends (e .low) (e .high)) (median r magnitude ruptureDistance vs30 mechanism)
   pub narrow : e .high ≤ℤ (e .low +ℤ pos medianWidth)
   pub small : SmallerThan (2 ^ 53) e
 
 -- e encloses sigma, at every fineness, is narrow, and has ends that a double equals
-pub record SigmaEnds (period magnitude : ℕ) (e : Ends) : Type 0 where
+pub record SigmaEnds (period magnitude : ℕ) (e : SignedEnds) : Type 0 where
   pub encloses : Encloses (ends (e .low) (e .high)) (sigma period magnitude)
   pub narrow : e .high ≤ℤ (e .low +ℤ pos sigmaWidth)
   pub small : SmallerThan (2 ^ 53) e

@@ -5,8 +5,8 @@ ghost use Rattle.exact_theory.specs.Root.{wholeRoot};
 ghost use Rattle.logarithm_theory.specs.Promise.{LnDomain, LnEnds, RootEnds};
 ghost use Rattle.logarithm_theory.specs.Evaluation.{Mantissa, Normal, NearOne, scaledBy, scaledOf, nearOneOf};
 ghost use Rattle.logarithm_theory.specs.Evaluation.{mantissaLnOf, scaledLnOf, lnOf, rootOf};
+pub use interval_theory::Ends;
 use logarithm_tables as table;
-pub use logarithm_theory::Ends;
 use logarithm_theory::Scaled;
 
 // a/b, rounded down.

@@ -1,5 +1,5 @@
 -- The midpoint value is at most the logarithm of p/q, and the trapezoid value at least, at every fineness.
-use mathlib.Core.Path.{_≡_, ap, subst}
+use mathlib.Core.Path.{_≡_, ap}
 use Prim.Native.Nat.{ℕ, suc, _+_, _*_, _-_, _≤_, _<_}
 use native.Mathlib.Nat.{mul-le-mul-left, mul-le-mul-right, one-le-mul, sub-add-cancel}
 use native.Mathlib.Numerals.{one-add}
@@ -14,13 +14,11 @@ use Rattle.exact_theory.proofs.LogarithmLaws.{Bounds, bounds-less, bounds-times
 
 -- (d − j)² is not below zero
 pub square : (d j : ℕ) → 4 * d * j ≤ (d + j) * (d + j)
-square d j = elim (decLe d j) [ yes h ↦ less d (j - d) j (omega arith) | no h ↦ more (d - j) j d (omega arith) ]
+square d j =
+    elim (decLe d j) [ yes h ↦ less d (j - d) j (omega arith) | no h ↦ omega (arith, less j (d - j) d (omega arith)) ]
   where
     less : (d x j : ℕ) → d + x ≡ j → 4 * d * j ≤ (d + j) * (d + j)
     less d x j e = rw (← e) (omega arith)
-
-    more : (x j d : ℕ) → j + x ≡ d → 4 * d * j ≤ (d + j) * (d + j)
-    more x j d e = rw (← e) (omega arith)
 
 -- ---- p is e + q, and s the sum of p n and q n
 
@@ -30,16 +28,16 @@ sum e q n = (e + q + q) * n
 -- 1/j lies above the tangent of 1/x in the middle of q n and p n, and below their chord
 module _ (e q n : ℕ) where
   tangent : (j : ℕ) → j < q * n + e * n → 4 * (sum e q n - j) * j ≤ sum e q n * sum e q n
-  tangent j h = go (sum e q n - j) (sub-add-cancel (omega arith))
-    where
-      go : (d : ℕ) → d + j ≡ sum e q n → 4 * d * j ≤ sum e q n * sum e q n
-      go d g = subst (λ (z : ℕ). 4 * d * j ≤ z * z) g (square d j)
+  tangent j h = let g : j ≤ sum e q n = omega arith in rw (sub-add-cancel g) at (square (sum e q n - j) j)
 
   chord : (j : ℕ) → suc (q * n) ≤ j → j < suc (q * n) + e * n → (e + q) * n * (q * n) ≤ 1 * (sum e q n - j) * j
   chord j g h = go (j - q * n) (q * n + e * n - j) (sum e q n - j) (omega arith) (omega arith) (omega arith)
     where
       go : (x y d : ℕ) → x + q * n ≡ j → y + x ≡ e * n → d ≡ y + q * n → (e + q) * n * (q * n) ≤ 1 * d * j
       go x y d ex ey ed = rw (ed, ← ex) (omega (arith, ap (λ (z : ℕ). z * (q * n)) ey))
+
+twice-some : (e : ℕ) {q : ℕ} → 1 ≤ q → 1 ≤ 2 * ((e + q) * q)
+twice-some e {q} h = omega (arith, one-le-mul {a = e + q} (omega arith) h)
 
 -- r (s − j), added up over the terms from k on
 abbrev slope : ℕ → ℕ → ℕ → ℕ → ℕ → ℕ
@@ -50,29 +48,16 @@ module _ (e q n : ℕ) (hq : 1 ≤ q) (hn : 1 ≤ n) where
   mid-at =
       let s : 1 ≤ sum e q n = one-le-mul {a = e + q + q} (omega arith) hn in
       let S : 1 ≤ sum e q n * sum e q n = one-le-mul s s in
-      ≤q-trans (over-≤ (2 * e) (slope 4 e q n (q * n)) (omega arith) S enough)
+      let w = ap (λ (z : ℕ). z * (e + q + q)) (weights-down 4 (sum e q n) (e * n) (q * n) (omega arith)) in
+      ≤q-trans (over-≤ (2 * e) (slope 4 e q n (q * n)) (omega arith) S (omega arith))
       (weights-below (λ (j : ℕ). 4 * (sum e q n - j)) S (e * n) (q * n) (one-le-mul hq hn) (λ j p h. tangent e q n j h))
-    where
-      go : (w : ℕ) → 2 * w + 4 * (2 * (e * n * (q * n)) + e * n * (e * n)) ≡ 4 * (2 * (e * n * sum e q n) + e * n) →
-          2 * e * (sum e q n * sum e q n) ≤ w * (e + q + q)
-      go w g = omega (arith, ap (λ (z : ℕ). z * (e + q + q)) g)
-
-      enough : 2 * e * (sum e q n * sum e q n) ≤ slope 4 e q n (q * n) * (e + q + q)
-      enough = go (slope 4 e q n (q * n)) (weights-down 4 (sum e q n) (e * n) (q * n) (omega arith))
 
   trap-at : harmonic (e * n) (suc (q * n)) ≤q pos (e * (e + q + q)) over (2 * ((e + q) * q))
   trap-at =
       let D : 1 ≤ (e + q) * n * (q * n) = one-le-mul (one-le-mul {a = e + q} (omega arith) hn) (one-le-mul hq hn) in
-      let E : 1 ≤ 2 * ((e + q) * q) = one-le-mul {a = 2} (omega arith) (one-le-mul {a = e + q} (omega arith) hq) in
+      let w = ap (λ (z : ℕ). z * ((e + q) * q)) (weights-down 1 (sum e q n) (e * n) (suc (q * n)) (omega arith)) in
       ≤q-trans (weights-above (λ (j : ℕ). 1 * (sum e q n - j)) D (e * n) (suc (q * n)) (omega arith) (chord e q n))
-      (over-≤ (slope 1 e q n (suc (q * n))) (e * (e + q + q)) D E enough)
-    where
-      go : (w : ℕ) → 2 * w + 1 * (2 * (e * n * suc (q * n)) + e * n * (e * n)) ≡ 1 * (2 * (e * n * sum e q n) + e * n) →
-          w * (2 * ((e + q) * q)) ≤ e * (e + q + q) * ((e + q) * n * (q * n))
-      go w g = omega (arith, ap (λ (z : ℕ). z * ((e + q) * q)) g)
-
-      enough : slope 1 e q n (suc (q * n)) * (2 * ((e + q) * q)) ≤ e * (e + q + q) * ((e + q) * n * (q * n))
-      enough = go (slope 1 e q n (suc (q * n))) (weights-down 1 (sum e q n) (e * n) (suc (q * n)) (omega arith))
+      (over-≤ (slope 1 e q n (suc (q * n))) (e * (e + q + q)) D (twice-some e hq) (omega arith))
 
 -- ---- bounds over S
 
@@ -86,16 +71,13 @@ pub areas : (S x y e q : ℕ) → 1 ≤ S → 1 ≤ q → x * (e + q + q) ≤ 2 
 unfolding upperSum lowerSum
 areas S x y e q hS hq l h = record {
   lower = λ n g. ≤q-trans (over-≤ x (2 * e) hS (omega arith) l) (rw (terms e q n) (mid-at e q n hq g));
-  upper = λ n g. ≤q-trans (rw (terms e q n) (trap-at e q n hq g)) (over-≤ (e * (e + q + q)) y some hS h);
+  upper = λ n g. ≤q-trans (rw (terms e q n) (trap-at e q n hq g)) (over-≤ (e * (e + q + q)) y (twice-some e hq) hS h);
 }
-  where
-    some : 1 ≤ 2 * ((e + q) * q)
-    some = one-le-mul {a = 2} (omega arith) (one-le-mul {a = e + q} (omega arith) hq)
 
 -- what is rounded down to q, in units of r, has a logarithm at most 1/q above that of q
 pub bounds-rounded : (S z r q a : ℕ) → 1 ≤ S → 1 ≤ r → 1 ≤ q → S ≤ z * q → r * q ≤ a → a ≤ r * suc q →
     Bounds S 0 z a (r * q)
-bounds-rounded S z r q a hS hr hq g l h = bounds-less hS (one-le-mul hr hq) l h (bounds-times r hr (rw one-add at one))
-  where
-    one : Bounds S 0 z (1 + q) q
-    one = areas S 0 z 1 q hS hq (omega arith) (omega (arith, mul-le-mul-right (1 + q + q) g, mul-le-mul-left z hq))
+bounds-rounded S z r q a hS hr hq g l h =
+    let more = mul-le-mul-right (1 + q + q) g in
+    let one = areas S 0 z 1 q hS hq (omega arith) (omega (arith, mul-le-mul-left z hq)) in
+    bounds-less hS (one-le-mul hr hq) l h (bounds-times r hr (rw one-add at one))

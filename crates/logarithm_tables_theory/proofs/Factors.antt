@@ -3,7 +3,7 @@ use mathlib.Core.List.{List}
 use Prim.Native.Nat.{ℕ, _+_, _*_, _-_, _/_, _^_, _≤_, _<_}
 use native.Mathlib.Nat.{mul-le-mul-right, zero-add}
 use native.Mathlib.Omega.{arith}
-use lib.Dec.{T, leb, leb→le}
+use lib.Dec.{T, leb→le}
 use lib.ListN.{length, getD}
 use Rattle.toolbox_theory.proofs.Tests.{and-left, and-right, every, every-at}
 use Rattle.logarithm_tables_theory.specs.declared.Factor.{Factor}
@@ -14,42 +14,6 @@ use Rattle.logarithm_tables_theory.proofs.TableTests.{fine-places}
 
 -- ---- a factor at its place
 
-pub record InPlace (cells top most i : ℕ) (w : Factor) : Type 0 where
-  pub low : top * cells ≤ w .by * (cells + i)
-  pub high : w .by * (cells + i + 1) ≤ most
-  pub some : 1 ≤ w .by
-  pub up : w .by ≤ top
-  pub small : w .logarithm ≤ ln2
-
-in-place : (cells top most : ℕ) (ws : List Factor) → T (every (inPlace cells top most) 0 ws) →
-    (d : Factor) (i : ℕ) → i < length ws → InPlace cells top most i (getD ws i d)
-in-place cells top most ws t d i h = go (getD ws i d) (rw zero-add at (every-at (inPlace cells top most) d 0 ws t i h))
-  where
-    go : (w : Factor) → T (inPlace cells top most i w) → InPlace cells top most i w
-    go w t =
-        let two = and-right (leb (top * cells) (w .by * (cells + i))) _ t in
-        let three = and-right (leb (w .by * (cells + i + 1)) most) _ two in
-        let four = and-right (leb 1 (w .by)) _ three in
-        record {
-          low = leb→le (top * cells) (w .by * (cells + i)) (and-left (leb (top * cells) (w .by * (cells + i))) _ t);
-          high = leb→le (w .by * (cells + i + 1)) most (and-left (leb (w .by * (cells + i + 1)) most) _ two);
-          some = leb→le 1 (w .by) (and-left (leb 1 (w .by)) _ three);
-          up = leb→le (w .by) top (and-left (leb (w .by) top) _ four);
-          small = leb→le (w .logarithm) ln2 (and-right (leb (w .by) top) _ four);
-        }
-
--- y is from (cells + i) D to below (cells + i + 1) D
-spread : (D cells top most i y : ℕ) (w : Factor) → InPlace cells top most i w →
-    (cells + i) * D ≤ y → y < (cells + i + 1) * D → (top * cells * D ≤ y * w .by) × (y * w .by < most * D)
-spread D cells top most i y w p g h = go (w .by) (p .some) (p .low) (p .high)
-  where
-    go : (b : ℕ) → 1 ≤ b → top * cells ≤ b * (cells + i) → b * (cells + i + 1) ≤ most →
-        (top * cells * D ≤ y * b) × (y * b < most * D)
-    go b s l m = (
-      omega (arith, mul-le-mul-right b g, mul-le-mul-right D l),
-      omega (arith, mul-le-mul-right b h, mul-le-mul-right D m),
-    )
-
 -- w brings y to what is from top cells D to below end D, and its logarithm is right to δ
 pub record Brings (cells top end δ D y : ℕ) (w : Factor) : Type 0 where
   pub entry : Entry top δ w
@@ -59,21 +23,23 @@ pub record Brings (cells top end δ D y : ℕ) (w : Factor) : Type 0 where
   pub least : top * cells * D ≤ y * w .by
   pub most : y * w .by < end * D
 
--- by the two tests of a table, each of its entries does
+-- by the two tests of a table, each of its entries does; y is from (cells + i) D to below (cells + i + 1) D
 module _ (c cells top most δ D : ℕ) (ws : List Factor) (hc : 1 ≤ c) (ht : 1 ≤ c * top)
     (walk : T (walks c top δ ws (c * top) 0 0)) (places : T (every (inPlace cells top most) 0 ws)) where
   brings : (d : Factor) (i y : ℕ) → i < length ws → (cells + i) * D ≤ y → y < (cells + i + 1) * D →
       Brings cells top most δ D y (getD ws i d)
   brings d i y h g k =
-      let p = in-place cells top most ws places d i h in
-      let s = spread D cells top most i y (getD ws i d) p g k in
+      let t = rw zero-add at (every-at (inPlace cells top most) d 0 ws places i h) in
+      let some : 1 ≤ getD ws i d .by = search (and-left, and-right, leb→le) in
+      let low : top * cells ≤ getD ws i d .by * (cells + i) = search (and-left, leb→le) in
+      let high : getD ws i d .by * (cells + i + 1) ≤ most = search (and-left, and-right, leb→le) in
       record {
         entry = table-entry c top δ hc ws ht walk d i h;
-        some = p .some;
-        up = p .up;
-        small = p .small;
-        least = s .0;
-        most = s .1;
+        some = some;
+        up = search (and-left, and-right, leb→le);
+        small = search (and-right, leb→le);
+        least = omega (arith, mul-le-mul-right (getD ws i d .by) g, mul-le-mul-right D low);
+        most = omega (arith, mul-le-mul-right (getD ws i d .by) k, mul-le-mul-right D high);
       }
 
 -- ---- the two tables

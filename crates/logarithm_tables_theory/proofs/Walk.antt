@@ -4,13 +4,13 @@ use mathlib.Core.Path.{_≡_}
 use mathlib.Core.Bool.{Bool, true, _&&_}
 use mathlib.Core.List.{List, [], _∷_}
 use Prim.Native.Nat.{ℕ, zero, suc, _+_, _*_, _-_, _/_, _≤_, _<_}
-use native.Mathlib.Nat.{one-le-mul, div-mul-le-self, lt-div-mul-add, not-suc-le-zero, le-of-suc-le-suc}
+use native.Mathlib.Nat.{div-mul-le-self, lt-div-mul-add, not-suc-le-zero, le-of-suc-le-suc}
 use native.Mathlib.Nat.{le-of-mul-le-mul-left, add-zero, add-suc}
 use native.Mathlib.Numerals.{one-add}
 use native.Mathlib.Omega.{arith}
 use lib.Dec.{T, leb, eqb, leb→le, eqb→eq}
 use lib.ListN.{length, getD}
-use Rattle.toolbox_theory.proofs.Tests.{and-left, and-right}
+use Rattle.toolbox_theory.proofs.Tests.{and-left, and-right, both, each}
 use Rattle.exact_theory.proofs.LogarithmLaws.{Bounds, bounds-wider, bounds-same, bounds-plus, bounds-over}
 use Rattle.logarithm_tables_theory.specs.declared.Factor.{Factor}
 use Rattle.logarithm_tables_theory.proofs.Areas.{areas}
@@ -31,23 +31,10 @@ abbrev highStep : ℕ → ℕ
 highStep q = S * (q + q + 1) / (2 * (suc q * q)) + 1
 
 step : (q : ℕ) → 1 ≤ q → Bounds S (lowStep q) (highStep q) (suc q) q
-step q hq = rw one-add at (areas S (lowStep q) (highStep q) 1 q (omega arith) hq low high)
-  where
-    low : lowStep q * (1 + q + q) ≤ 2 * 1 * S
-    low = go (lowStep q) (div-mul-le-self (2 * S) (q + q + 1))
-      where
-        go : (x : ℕ) → x * (q + q + 1) ≤ 2 * S → x * (1 + q + q) ≤ 2 * 1 * S
-        go x g = omega arith
-
-    high : 1 * (1 + q + q) * S ≤ highStep q * (2 * ((1 + q) * q))
-    high = go (S * (q + q + 1) / (2 * (suc q * q))) (lt-div-mul-add {a = S * (q + q + 1)} {b = 2 * (suc q * q)} some)
-      where
-        some : 1 ≤ 2 * (suc q * q)
-        some = one-le-mul {a = 2} (omega arith) (one-le-mul {a = suc q} (omega arith) hq)
-
-        go : (x : ℕ) → S * (q + q + 1) < x * (2 * (suc q * q)) + 2 * (suc q * q) →
-            1 * (1 + q + q) * S ≤ (x + 1) * (2 * ((1 + q) * q))
-        go x g = omega arith
+step q hq =
+    let low = div-mul-le-self (2 * S) (q + q + 1) in
+    let high = lt-div-mul-add {a = S * (q + q + 1)} {b = 2 * (suc q * q)} (omega arith) in
+    rw one-add at (areas S (lowStep q) (highStep q) 1 q (omega arith) hq (omega arith) (omega arith))
 
 -- ---- c steps, from q + c down to q, added to x
 
@@ -93,19 +80,14 @@ module _ (c top δ : ℕ) where
       Reached p (steps lowStep (q - p) p x) (steps highStep (q - p) p y)
   next {q} p h g r =
       let e : p + (q - p) ≡ q = omega arith in
-      record {
-        some = h;
-        below = omega arith;
-        bounds = steps-down h (q - p) (rw e (r .below)) (rw e (r .bounds));
-      }
+      record { some = h; below = omega arith; bounds = steps-down h (q - p) (rw e (r .below)) (rw e (r .bounds)) }
 
   module _ (hc : 1 ≤ c) where
     entry : {q x y : ℕ} (w : Factor) → Reached q x y → T (fits w q x y) → Entry top δ w
     entry {q} {x} {y} w r t =
-        let e : q ≡ c * w .by = eqb→eq q (c * w .by) (and-left (eqb q (c * w .by)) _ t) in
-        let both = and-right (eqb q (c * w .by)) _ t in
-        let least = leb→le (w .logarithm * 1_000_000) x (and-left (leb (w .logarithm * 1_000_000) x) _ both) in
-        let most = leb→le y ((w .logarithm + δ) * 1_000_000) (and-right (leb (w .logarithm * 1_000_000) x) _ both) in
+        let e : q ≡ c * w .by = search (and-left, eqb→eq) in
+        let fit : (w .logarithm * 1_000_000 ≤ x) × (y ≤ (w .logarithm + δ) * 1_000_000) =
+        search (and-left, and-right, leb→le) in
         bounds-over c hc (some (w .by) (rw e at (r .some))) (le-of-mul-le-mul-left {k = c} (rw e at (r .below)) hc)
         (bounds-wider U (w .logarithm) (w .logarithm + δ) (omega arith) (omega arith) (omega arith) (omega arith)
         (rw e at (r .bounds)))
@@ -121,11 +103,9 @@ module _ (c top δ : ℕ) where
     entries (w ∷ []) r t d (suc k) h = absurd (not-suc-le-zero (le-of-suc-le-suc h))
     entries (w ∷ v ∷ ws) {q} {x} {y} r t d zero h = entry w r (and-left (fits w q x y) _ t)
     entries (w ∷ v ∷ ws) {q} {x} {y} r t d (suc k) h =
-        let more = and-right (fits w q x y) _ t in
-        let near = and-left (ahead v q) _ more in
-        let some = leb→le 1 (c * v .by) (and-left (leb 1 (c * v .by)) _ near) in
-        let order = leb→le (c * v .by) q (and-right (leb 1 (c * v .by)) _ near) in
-        entries (v ∷ ws) (next (c * v .by) some order r) (and-right (ahead v q) _ more) d k (le-of-suc-le-suc h)
+        let more = both (ahead v q) _ (and-right (fits w q x y) _ t) in
+        let near = each (leb 1 (c * v .by)) _ (leb→le 1 (c * v .by)) (leb→le (c * v .by) q) (more .0) in
+        entries (v ∷ ws) (next (c * v .by) (near .0) (near .1) r) (more .1) d k (le-of-suc-le-suc h)
 
     pub table-entry : (ws : List Factor) → 1 ≤ c * top → T (walks ws (c * top) 0 0) → (d : Factor) (k : ℕ) →
         k < length ws → Entry top δ (getD ws k d)

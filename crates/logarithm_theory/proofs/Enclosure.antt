@@ -17,6 +17,9 @@ use Rattle.exact_theory.specs.Formula.{Formula, eval, ends, Encloses}
 use Rattle.exact_theory.proofs.FractionLaws.{≤q-refl, neg-anti}
 use Rattle.exact_theory.proofs.LogarithmLaws.{ln-proper, ln-flipped}
 use Rattle.exact_theory.proofs.Points.{Points, value, Picked, Sound, encloses-by}
+use Rattle.interval_theory.specs.declared.SignedPair.{SignedPair}
+use Rattle.interval_theory.specs.Signed.{endsOf}
+use Rattle.interval_theory.proofs.SignedValues.{LiesIn, in-ends}
 use Rattle.logarithm_theory.specs.Promise.{LnDomain, rootFineness}
 use Rattle.logarithm_theory.specs.Evaluation.{lnOf, rootOf}
 use Rattle.logarithm_theory.proofs.Laws.{lnOf-promise, rootOf-promise}
@@ -93,6 +96,21 @@ module _ (n : ℕ) (g : 1 ≤ n) where
 
 -- ---- the only way up
 
-pub encloses : {e : Formula} {P : Pair} → Sound e → ((σ : Points) → Known σ → value σ e ∈ P) → Encloses P e
-encloses s h =
-    encloses-by s (λ n g. record { points = points n g; picked = picked n g; held = h (points n g) (known n g) })
+-- every logarithm of f is of numbers of at least 1, every divisor above zero, and at whatever points are known, what f
+-- comes to lies in P
+pub record AtPoints (f : Formula) (P : Pair) : Type 0 where
+  pub sound : Sound f
+  pub held : (σ : Points) → Known σ → value σ f ∈ P
+
+pub encloses : {f : Formula} {P : Pair} → AtPoints f P → Encloses P f
+encloses h =
+    encloses-by (h .sound)
+    (λ n g. record { points = points n g; picked = picked n g; held = h .held (points n g) (known n g) })
+
+-- the same of a signed pair, and so of its ends
+pub record PairAtPoints (f : Formula) (a : SignedPair) : Type 0 where
+  pub sound : Sound f
+  pub held : (σ : Points) → Known σ → LiesIn (value σ f) a
+
+pub at-ends : {f : Formula} (a : SignedPair) → PairAtPoints f a → AtPoints f (ends (endsOf a .low) (endsOf a .high))
+at-ends a h = record { sound = h .sound; held = λ σ known. in-ends a (h .held σ known) }

@@ -8,32 +8,34 @@ use lib.Dec.{T, eqb, eqb→eq}
 use lib.IntN.{pos}
 use Rattle.toolbox_theory.specs.Whole.{up, down}
 use Rattle.exact_theory.specs.Fraction.{_over_, _<q_, _*q_, _-q_}
-use Rattle.exact_theory.specs.Logarithm.{upperSum}
 use Rattle.exact_theory.specs.Root.{rootValues}
 use Rattle.exact_theory.specs.Formula.{units}
-use Rattle.exact_theory.proofs.FractionLaws.{le-as, lt-of, ≤q-trans, add-Is, mul-Is, neg-Is, over-Is}
-use Rattle.exact_theory.proofs.Harmonic.{harmonic-most}
-use Rattle.exact_theory.proofs.LogarithmLaws.{Bounds, bounds-wider, bounds-same, encloses-ln}
+use Rattle.exact_theory.proofs.FractionLaws.{lt-of, add-Is, mul-Is, neg-Is, over-Is}
+use Rattle.exact_theory.proofs.LogarithmLaws.{Bounds, bounds-wider, bounds-same, bounds-least, bounds-most}
+use Rattle.exact_theory.proofs.LogarithmLaws.{encloses-ln}
 use Rattle.exact_theory.proofs.RootLaws.{wholeRoot-is, root-below, encloses-root}
+use Rattle.interval_theory.specs.declared.Ends.{Ends}
+use Rattle.interval_theory.specs.Natural.{unit}
 use Rattle.logarithm_tables_theory.proofs.Walk.{U}
-use Rattle.logarithm_theory.specs.declared.Ends.{Ends}
 use Rattle.logarithm_theory.specs.Evaluation.{scaledOf, slack, scaledLnOf, bothZero, lnOf, rootOf}
 use Rattle.logarithm_theory.specs.Promise.{LnDomain, lnWidth, LnEnds, rootFineness, width, RootEnds}
+use Rattle.logarithm_theory.specs.Chain.{LnLeast}
+use Rattle.logarithm_theory.specs.Bound.{lnMost}
 use Rattle.logarithm_theory.proofs.Octave.{scales}
 use Rattle.logarithm_theory.proofs.Sum.{mantissa-ln, total}
 
 -- e are ends of the logarithm of a/b
 record Rounded (a b : ℕ) (e : Ends) : Type 0 where
-  bounds : Bounds 1_000_000_000 (e .low) (e .high) a b
+  bounds : Bounds unit (e .low) (e .high) a b
   order : e .low ≤ e .high
   narrow : e .high ≤ e .low + lnWidth
-  small : e .high ≤ 21_000_000_000
+  small : e .high ≤ lnMost
 
 -- a sum in units of 1/U, to 23 for each octave and 209, rounded outward to units
 rounded : (sum k : ℕ) {a b : ℕ} → k ≤ 28 → sum ≤ 86_000_000_000_000 → Bounds U sum (sum + 23 * k + 209) a b →
     Rounded a b (record { low = sum / 4096; high = (sum + 23 * k + slack) / 4096 })
 rounded sum k few small b = record {
-  bounds = bounds-wider 1_000_000_000 _ _ (omega arith) (omega arith) (omega arith) (omega arith) b;
+  bounds = bounds-wider unit _ _ (omega arith) (omega arith) (omega arith) (omega arith) b;
   order = omega arith;
   narrow = omega arith;
   small = omega arith;
@@ -48,7 +50,7 @@ lnOf-rounded {a} {b} d = go (eqb a b) (eqb→eq a b)
   where
     go : (c : Bool) → (T c → a ≡ b) → Rounded a b (cond c bothZero (scaledLnOf (scaledOf a b)))
     go true e = rw (e tt) (record {
-      bounds = bounds-wider 1_000_000_000 _ _ (omega arith) (omega arith) (omega arith) (omega arith) (zero (d .least));
+      bounds = bounds-wider unit _ _ (omega arith) (omega arith) (omega arith) (omega arith) (zero (d .least));
       order = omega arith;
       narrow = omega arith;
       small = omega arith;
@@ -78,7 +80,7 @@ unfolding width rootValues units _-q_ up down
 root-narrow k =
     lt-of (mul-Is (mul-Is (over-Is (pos 1151) 100_000 (omega arith)) (over-Is (pos 1) 100 (omega arith)))
     (add-Is (over-Is (pos (suc k)) rootFineness (omega arith)) (neg-Is (over-Is (pos k) rootFineness (omega arith)))))
-    (over-Is (pos 1) 1_000_000_000 (omega arith)) (omega arith)
+    (over-Is (pos 1) unit (omega arith)) (omega arith)
 
 pub rootOf-promise : (X : ℕ) → RootEnds X (rootOf X)
 unfolding rootOf
@@ -92,19 +94,18 @@ rootOf-promise X = record {
 pub lnOf-order : {a b : ℕ} → LnDomain a b → lnOf a b .low ≤ lnOf a b .high
 lnOf-order d = lnOf-rounded d .order
 
-pub lnOf-small : {a b : ℕ} → LnDomain a b → lnOf a b .high ≤ 21_000_000_000
+pub lnOf-small : {a b : ℕ} → LnDomain a b → lnOf a b .high ≤ lnMost
 lnOf-small d = lnOf-rounded d .small
 
--- ln(a/b) is at most (a − b)/b
-pub lnOf-most : {a b : ℕ} → LnDomain a b → lnOf a b .low * b ≤ (a - b) * 1_000_000_000
-unfolding upperSum up down
-lnOf-most {a} {b} d =
-    let h = lnOf-rounded d .bounds .lower 1 (omega arith) in
-    let k = harmonic-most (a * 1 - b * 1) (b * 1) (omega arith) in
-    let m =
-    le-as (over-Is (pos (lnOf a b .low)) 1_000_000_000 (omega arith))
-    (over-Is (pos (a * 1 - b * 1)) (b * 1) (omega arith)) (≤q-trans h k) in
-    omega arith
+pub lnOf-bounds : {a b : ℕ} → LnDomain a b → Bounds unit (lnOf a b .low) (lnOf a b .high) a b
+lnOf-bounds d = lnOf-rounded d .bounds
+
+-- ln(a/b) is at most (a − b)/b, and at least (a − b)/a
+pub lnOf-most : {a b : ℕ} → LnDomain a b → lnOf a b .low * b ≤ (a - b) * unit
+lnOf-most d = bounds-most (omega arith) (d .least) (d .order) (lnOf-bounds d)
+
+pub lnOf-least : {a b : ℕ} → LnDomain a b → LnLeast a b
+lnOf-least d = omega (arith, bounds-least (omega arith) (d .least) (d .order) (lnOf-bounds d))
 
 pub rootOf-small : {X : ℕ} → X < 2 ^ 29 → rootOf X < 2 ^ 32
 unfolding rootOf

@@ -4,3 +4,5 @@ pub mod Remainder
 pub mod Sum
 pub mod Laws
 pub mod Enclosure
+pub mod Bounds
+pub mod Chain

@@ -7,7 +7,7 @@ use native.Mathlib.Omega.{arith}
 use borrow.Author.Tests.{ne-eqb}
 use lib.Count.{leadingZeros, leading-top}
 use lib.Pow.{pow-pos, pow-mono, pow-add}
-use Rattle.logarithm_theory.specs.declared.Ends.{Ends}
+use Rattle.interval_theory.specs.declared.Ends.{Ends}
 use Rattle.logarithm_theory.specs.declared.Scaled.{Scaled}
 use Rattle.logarithm_theory.specs.Promise.{LnDomain}
 use Rattle.logarithm_theory.specs.Evaluation.{Normal, scaledOf, scaledLnOf, lnOf}

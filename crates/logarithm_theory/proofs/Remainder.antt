@@ -5,38 +5,37 @@ use Prim.Native.Nat.{ℕ, suc, _+_, _*_, _-_, _/_, _^_, _≤_}
 use native.Mathlib.Nat.{mul-le-mul, mul-le-mul-right, le-of-mul-le-mul-right}
 use native.Mathlib.Omega.{arith}
 use Rattle.exact_theory.proofs.LogarithmLaws.{Bounds, bounds-wider, bounds-plus, bounds-times}
+use Rattle.interval_theory.specs.Natural.{unit}
 use Rattle.logarithm_tables_theory.proofs.Areas.{areas, bounds-rounded}
 use Rattle.logarithm_tables_theory.proofs.Walk.{U}
 use Rattle.logarithm_theory.specs.Evaluation.{NearOne, nearOneOf}
 
+-- d is below 1.25/4096
+abbrev dMost : ℕ
+dMost = 671_088_639
+
 -- t is half the square of d, rounded up
 pub record Halved (d t : ℕ) : Type 0 where
-  pub small : d ≤ 671_088_639
-  pub square : d * d ≤ 450_359_961_394_872_321
+  pub small : d ≤ dMost
+  pub square : d * d ≤ dMost * dMost
   pub below : d * d ≤ t * 2 ^ 42
   pub above : t * 2 ^ 42 ≤ d * d + 2 ^ 42
   pub less : t ≤ d
 
-pub halved : (d : ℕ) → d ≤ 671_088_639 → Halved d ((d * d + (2 ^ 42 - 1)) / 2 ^ 42)
+pub halved : (d : ℕ) → d ≤ dMost → Halved d ((d * d + (2 ^ 42 - 1)) / 2 ^ 42)
 halved d h = go (d * d) refl (mul-le-mul h h) (mul-le-mul-right d h)
   where
-    go : (s : ℕ) → s ≡ d * d → s ≤ 450_359_961_394_872_321 → s ≤ 671_088_639 * d →
+    go : (s : ℕ) → s ≡ d * d → s ≤ dMost * dMost → s ≤ dMost * d →
         Halved d ((d * d + (2 ^ 42 - 1)) / 2 ^ 42)
-    go s e a b = record {
-      small = h;
-      square = omega arith;
-      below = omega arith;
-      above = omega arith;
-      less = omega arith;
-    }
+    go s e a b = omega arith
 
-product : (d t : ℕ) → d ≤ 671_088_639 → d * d ≤ 450_359_961_394_872_321 → t * 2 ^ 42 ≤ d * d + 2 ^ 42 →
-    t * d ≤ 102_401 * 671_088_639
+product : (d t : ℕ) → d ≤ dMost → d * d ≤ dMost * dMost → t * 2 ^ 42 ≤ d * d + 2 ^ 42 →
+    t * d ≤ 102_401 * dMost
 product d t p q r = mul-le-mul {n₁ = t} {n₂ = 102_401} (omega arith) p
 
 -- ---- h is d − t, and m the same in units of 1/U
 
-least : (h m : ℕ) {d t : ℕ} → Halved d t → h + t ≡ d → m * 2 ^ 29 ≤ h * 1_000_000_000 →
+least : (h m : ℕ) {d t : ℕ} → Halved d t → h + t ≡ d → m * 2 ^ 29 ≤ h * unit →
     m * (d + 2 ^ 41 + 2 ^ 41) ≤ 2 * d * U
 least h m {d} {t} w e g =
     let c : h * d ≤ d * d = mul-le-mul-right d (omega arith) in
@@ -44,17 +43,17 @@ least h m {d} {t} w e g =
     le-of-mul-le-mul-right {k = 2 ^ 29} (omega (arith, mul-le-mul-right (d + 2 ^ 42) g)) (omega arith)
 
 -- the trapezoid value of d is at most 65/2 above h
-chord-most : (h d t : ℕ) → h + t ≡ d → t * 2 ^ 42 ≤ d * d + 2 ^ 42 → t * d ≤ 102_401 * 671_088_639 →
+chord-most : (h d t : ℕ) → h + t ≡ d → t * 2 ^ 42 ≤ d * d + 2 ^ 42 → t * d ≤ 102_401 * dMost →
     d * (d + 2 ^ 42) ≤ (2 * h + 65) * (d + 2 ^ 41)
 chord-most h d t e p q = rw (← e) (omega (arith, rw (← e) at p, rw (← e) at q))
 
-scaled-most : (A Z h m : ℕ) → A ≤ (2 * h + 65) * Z → h * 1_000_000_000 ≤ m * 2 ^ 29 + 2 ^ 29 →
+scaled-most : (A Z h m : ℕ) → A ≤ (2 * h + 65) * Z → h * unit ≤ m * 2 ^ 29 + 2 ^ 29 →
     A * U ≤ (m + 62) * (2 * (Z * 2 ^ 41))
 scaled-most A Z h m p g =
-    let f : (2 * h + 65) * 1_000_000_000 ≤ (m + 62) * 2 ^ 30 = omega arith in
-    omega (arith, mul-le-mul-right Z f, mul-le-mul-right 1_000_000_000 p)
+    let f : (2 * h + 65) * unit ≤ (m + 62) * 2 ^ 30 = omega arith in
+    omega (arith, mul-le-mul-right Z f, mul-le-mul-right unit p)
 
-most : (h m : ℕ) {d t : ℕ} → Halved d t → h + t ≡ d → h * 1_000_000_000 ≤ m * 2 ^ 29 + 2 ^ 29 →
+most : (h m : ℕ) {d t : ℕ} → Halved d t → h + t ≡ d → h * unit ≤ m * 2 ^ 29 + 2 ^ 29 →
     d * (d + 2 ^ 41 + 2 ^ 41) * U ≤ (m + 62) * (2 * ((d + 2 ^ 41) * 2 ^ 41))
 most h m {d} {t} w e g =
     let c = chord-most h d t e (w .above) (product d t (w .small) (w .square) (w .above)) in
@@ -65,19 +64,19 @@ most h m {d} {t} w e g =
 
 -- ---- p, from 2^20 (d + 2^41) to below 2^20 (d + 1 + 2^41)
 
-pub distance : {p : ℕ} → NearOne p → (p - 2 ^ 61) / 2 ^ 20 ≤ 671_088_639
+pub distance : {p : ℕ} → NearOne p → (p - 2 ^ 61) / 2 ^ 20 ≤ dMost
 distance n = omega arith
 
 pub near-one : {p : ℕ} → NearOne p → Bounds U (nearOneOf p) (nearOneOf p + 64) p (2 ^ 61)
 unfolding nearOneOf
 near-one {p} n = go ((p - 2 ^ 61) / 2 ^ 20) (distance n) (omega arith) (omega arith)
   where
-    go : (d : ℕ) → d ≤ 671_088_639 → 2 ^ 20 * (d + 2 ^ 41) ≤ p → p ≤ 2 ^ 20 * suc (d + 2 ^ 41) →
-        let m : ℕ = (d - (d * d + (2 ^ 42 - 1)) / 2 ^ 42) * 1_000_000_000 / 2 ^ 29 in Bounds U m (m + 64) p (2 ^ 61)
+    go : (d : ℕ) → d ≤ dMost → 2 ^ 20 * (d + 2 ^ 41) ≤ p → p ≤ 2 ^ 20 * suc (d + 2 ^ 41) →
+        let m : ℕ = (d - (d * d + (2 ^ 42 - 1)) / 2 ^ 42) * unit / 2 ^ 29 in Bounds U m (m + 64) p (2 ^ 61)
     go d h l g =
         let w = halved d h in
         let t : ℕ = (d * d + (2 ^ 42 - 1)) / 2 ^ 42 in
-        let m : ℕ = (d - t) * 1_000_000_000 / 2 ^ 29 in
+        let m : ℕ = (d - t) * unit / 2 ^ 29 in
         let e : d - t + t ≡ d = omega arith in
         let off =
         bounds-rounded U 2 (2 ^ 20) (d + 2 ^ 41) p (omega arith) (omega arith) (omega arith) (omega arith) l g in

@@ -4,7 +4,8 @@ use Prim.Native.Nat.{ℕ, zero, suc, _+_, _*_, _^_, _≤_}
 use native.Mathlib.Nat.{mul-le-mul-left, mul-le-mul-right, one-le-mul, le-trans, mul-one, two-pow-succ}
 use native.Mathlib.Omega.{arith}
 use lib.Pow.{pow-pos}
-use Rattle.exact_theory.proofs.LogarithmLaws.{Bounds, bounds-wider, bounds-same, bounds-plus, bounds-times, bounds-over}
+use Rattle.exact_theory.proofs.LogarithmLaws.{Bounds, bounds-wider, bounds-same, bounds-plus, bounds-times}
+use Rattle.exact_theory.proofs.LogarithmLaws.{bounds-over}
 use Rattle.logarithm_tables_theory.specs.declared.Factor.{Factor}
 use Rattle.logarithm_tables_theory.specs.Tables.{ln2, coarseAt}
 use Rattle.logarithm_tables_theory.proofs.Areas.{bounds-rounded}
@@ -18,7 +19,7 @@ use Rattle.logarithm_theory.proofs.Octave.{Scales, scales}
 
 -- what both factors come to
 pub near : {w : ℕ} {f : Factor} → Fine w f → NearOne (w * f .by)
-near l = record { least = l .least; most = omega arith }
+near l = omega arith
 
 -- ---- the mantissa, by the chain c f y, 2^61, 2^47 f, c f 2^35
 
@@ -32,6 +33,9 @@ module _ {y : ℕ} {c f : Factor} (m : Mantissa y) (k : Coarse y c) (l : Fine (y
   brought : let r : ℕ = nearOneOf (y * c .by * f .by) in
       Bounds U (c .logarithm + f .logarithm + r) (c .logarithm + f .logarithm + r + 89) y (2 ^ 35)
   brought =
+      let first : c .by * f .by * y ≡ y * c .by * f .by = omega arith in
+      let third : 2 ^ 35 * f .by * 4096 ≡ 2 ^ 47 * f .by = omega arith in
+      let last : 2 ^ 35 * f .by * c .by ≡ c .by * f .by * 2 ^ 35 = omega arith in
       bounds-over (c .by * f .by) (one-le-mul (k .some) (l .some)) (omega arith) (m .least)
       (bounds-wider U _ _ (omega arith) (omega arith) (omega arith) (omega arith)
       (bounds-plus U {x = nearOneOf (y * c .by * f .by)} {y = nearOneOf (y * c .by * f .by) + 64} (omega arith)
@@ -39,15 +43,6 @@ module _ {y : ℕ} {c f : Factor} (m : Mantissa y) (k : Coarse y c) (l : Fine (y
       (bounds-plus U (omega arith) last-order second-order (bounds-times (2 ^ 47) (omega arith) (l .entry))
       (rw (third, last) at
       (bounds-times (2 ^ 35 * f .by) (one-le-mul {a = 2 ^ 35} (omega arith) (l .some)) (k .entry))))))
-    where
-      first : c .by * f .by * y ≡ y * c .by * f .by
-      first = omega arith
-
-      third : 2 ^ 35 * f .by * 4096 ≡ 2 ^ 47 * f .by
-      third = omega arith
-
-      last : 2 ^ 35 * f .by * c .by ≡ c .by * f .by * 2 ^ 35
-      last = omega arith
 
 -- what the code rests on, and the bounds, at the tables' entries
 pub record MantissaLn (y : ℕ) : Type 0 where
@@ -70,12 +65,10 @@ one-octave = bounds-over 2048 (omega arith) (omega arith) (omega arith) (coarse-
 octaves : (k : ℕ) → Bounds U (k * ln2) (k * (ln2 + 23)) (2 ^ k) 1
 octaves zero = bounds-same (omega arith) (omega arith)
 octaves (suc k) =
+    let twice : 2 ^ suc k ≡ 2 ^ k * 2 = omega (arith, two-pow-succ k) in
     rw twice (bounds-wider U _ _ (omega arith) (omega arith) (omega arith) (omega arith)
     (bounds-plus U (omega arith) (pow-pos k) (omega arith)
     (rw (mul-one (2 ^ k)) at (bounds-times (2 ^ k) (pow-pos k) one-octave)) (octaves k)))
-  where
-    twice : 2 ^ suc k ≡ 2 ^ k * 2
-    twice = omega (arith, two-pow-succ k)
 
 -- ---- a/b, by the chain 2^35 a, b 2^k y, b 2^k 2^35, 2^35 b
 
@@ -91,21 +84,15 @@ module _ {a b : ℕ} (d : LnDomain a b) (s : Scaled) (w : Scales a b s) where
       let y : ℕ = s .mantissa in
       let m = w .normal .mantissa in
       let n = mantissa-ln m in
+      let third : 2 ^ 35 * b ≤ base * 2 ^ 35 = omega (arith, mul-le-mul-left b (pow-pos (s .octave))) in
+      let top : 2 ^ 35 * b * 2 ^ s .octave ≡ base * 2 ^ 35 = omega arith in
+      let bottom : 2 ^ 35 * b * 1 ≡ 2 ^ 35 * b = omega arith in
       bounds-over (2 ^ 35) (omega arith) (d .least) (d .order)
       (bounds-wider U _ _ (omega arith) (omega arith) (omega arith) (omega arith)
       (bounds-plus U (omega arith) (le-trans third (mul-le-mul-left base (m .least))) (w .low)
       (bounds-rounded U 120 base y (2 ^ 35 * a) (omega arith) base-some (omega arith) (omega arith) (w .low) (w .high))
       (bounds-plus U (omega arith) third (mul-le-mul-left base (m .least)) (bounds-times base base-some (n .bounds))
       (rw (top, bottom) at (bounds-times (2 ^ 35 * b) (omega arith) (octaves (s .octave)))))))
-    where
-      third : 2 ^ 35 * b ≤ b * 2 ^ s .octave * 2 ^ 35
-      third = omega (arith, mul-le-mul-left b (pow-pos (s .octave)))
-
-      top : 2 ^ 35 * b * 2 ^ s .octave ≡ b * 2 ^ s .octave * 2 ^ 35
-      top = omega arith
-
-      bottom : 2 ^ 35 * b * 1 ≡ 2 ^ 35 * b
-      bottom = omega arith
 
 pub total : {a b : ℕ} → LnDomain a b → let s : Scaled = scaledOf a b in
     let x : ℕ = s .octave * ln2 + mantissaLnOf (s .mantissa) in Bounds U x (x + 23 * s .octave + 209) a b

@@ -5,9 +5,9 @@ use Prim.Native.Nat.{ℕ, _+_, _*_, _-_, _/_, _^_, _≤_, _<_}
 use lib.Count.{leadingZeros}
 use lib.Dec.{eqb}
 use Rattle.exact_theory.specs.Root.{wholeRoot}
+use Rattle.interval_theory.specs.declared.Ends.{Ends}
 use Rattle.logarithm_tables_theory.specs.declared.Factor.{Factor}
 use Rattle.logarithm_tables_theory.specs.Tables.{ln2, coarseAt, fineAt}
-use Rattle.logarithm_theory.specs.declared.Ends.{Ends}
 use Rattle.logarithm_theory.specs.declared.Scaled.{Scaled}
 use Rattle.logarithm_theory.specs.Promise.{rootFineness}
 

@@ -1,2 +1,4 @@
 pub mod Evaluation
 pub mod Promise
+pub mod Bound
+pub mod Chain

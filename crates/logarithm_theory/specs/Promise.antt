@@ -8,7 +8,7 @@ use Rattle.exact_theory.specs.Fraction.{Fraction, _over_, _<q_, _-q_, _*q_}
 use Rattle.exact_theory.specs.Pair.{Pair}
 use Rattle.exact_theory.specs.Root.{rootValues}
 use Rattle.exact_theory.specs.Formula.{ln, root, units, ends, Encloses}
-use Rattle.logarithm_theory.specs.declared.Ends.{Ends}
+use Rattle.interval_theory.specs.declared.Ends.{Ends}
 
 -- ---- ln(a/b)
 

@@ -13,7 +13,7 @@ ghost use Rattle.enclosures_theory.specs.Steps.{Added, Gone};
 use enclosures_theory::Printed;
 use enclosures_theory::Transfer;
 use engine_theory::Answer;
-use record_theory::Reading;
+use engine_theory::NextAnswer;
 
 // Puts a text at a place, and answers the place after it.
 fn put_text(out: &mut [u8], at: usize, text: &[u8]) -> usize
@@ -68,13 +68,13 @@ fn put_lines(s: &[u8], out: &mut [u8], start: usize) -> Printed
     let mut next = start;
     while at < s.len() {
         count += 1;
-        let r = record_reading::read(&s[at..]);
+        let r = engine::answer_next(&s[at..]);
         match r {
-            Reading::Read(x, n) => {
-                next = put_line(out, next, count, engine::answer_fields(x));
+            NextAnswer::Enclosed(e, n) => {
+                next = put_line(out, next, count, Answer::Enclosed(e));
                 at += n;
             }
-            Reading::Refused(k) => {
+            NextAnswer::Refused(k) => {
                 next = put_line(out, next, count, Answer::Refused(k));
                 return Printed { count, next };
             }

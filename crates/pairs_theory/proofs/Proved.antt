@@ -21,7 +21,7 @@ use Rattle.values_theory.specs.Table.{fraction, AllHold}
 use Rattle.values_theory.proofs.Proved.{cutTo, passes, holds}
 use Rattle.pairs_theory.specs.Pairs.{pairs}
 
--- in two parts, as one declaration may take so many steps and not more
+-- in two parts, as one declaration may take so many steps and not more; the second opens what the first does
 first-passes : T (passes (getD pairs 0 (fraction zeroQ zeroQ)))
 unfolding passes cutTo sound median sigma idrissMedian idrissSigma rowFor secondRowFor takesTable3 bnl
     site.nonlinearPart site.lowPart site.transition site.highPart site.c site.d site.Δx site.Δy alphaPart betaFactor
@@ -30,10 +30,7 @@ unfolding passes cutTo sound median sigma idrissMedian idrissSigma rowFor second
 first-passes = tt
 
 later-pass : T (every (λ k c. passes c) 1 (drop 1 pairs))
-unfolding passes cutTo sound median sigma idrissMedian idrissSigma rowFor secondRowFor takesTable3 bnl
-    site.nonlinearPart site.lowPart site.transition site.highPart site.c site.d site.Δx site.Δy alphaPart betaFactor
-    F eval lnQ up lnPair lowerSum upperSum harmonic exactly _+p_ _-p_ _*p_ _/p_ span4 hull reachesUpTo reachesAbove
-    branch minQ maxQ leQ zeroQ negQ _+q_ _-q_ _*q_ _/q_ flip recipQ _over_
+unfolding first-passes
 later-pass = tt
 
 pub pairs-hold : AllHold pairs

@@ -6,10 +6,11 @@ use Prim.Native.Nat.{ℕ, _+_, _≤_, _<_}
 use native.Mathlib.Nat.{le-refl}
 use native.Mathlib.Omega.{arith}
 use lib.Dec.{T}
-use lib.IntN.{ℤ, pos, negℤ, _+ℤ_}
+use lib.IntN.{ℤ, pos, _+ℤ_}
 use Rattle.toolbox_theory.specs.Whole.{up, down}
 use Rattle.toolbox_theory.proofs.Whole.{le-out, add-is}
-use Rattle.toolbox_theory.proofs.Tests.{both}
+use Rattle.toolbox_theory.proofs.Tests.{both, each}
+use Rattle.values_theory.specs.Table.{neg}
 use Rattle.exact_theory.specs.Fraction.{_over_, leQ, _≤q_, zeroQ, negQ, _+q_, _-q_, _*q_, _/q_, flip, recipQ, minQ}
 use Rattle.exact_theory.specs.Fraction.{maxQ}
 use Rattle.exact_theory.specs.Pair.{exactly, _+p_, _*p_, _/p_, span4, hull, _-p_}
@@ -32,22 +33,21 @@ use Rattle.pairs_theory.specs.ShutOut.{NoSharedAnswer, idrissStrong, idr
 use Rattle.pairs_theory.specs.ShutOut.{booreAtkinsonWeak, NoFixedEnds}
 
 -- the order of whole numbers of units is that of the numbers
-unit-order : (a b : ℤ) → units a ≤q units b → up a + down b ≤ up b + down a
+units-le : (a b : ℤ) → units a ≤q units b → up a + down b ≤ up b + down a
 unfolding units
-unit-order a b h =
-    let o = le-as (over-Is a 1_000_000_000 (omega arith)) (over-Is b 1_000_000_000 (omega arith)) h in
-    omega (arith, o)
+units-le a b h = omega (arith, le-as (over-Is a 1_000_000_000 (omega arith)) (over-Is b 1_000_000_000 (omega arith)) h)
 
 -- ends that enclose both are further apart than b and a, where one formula is at least a and the other at most b units
-apart : (f g : Formula) (v w : ℕ) {low high : ℤ} (a b : ℤ) → units a ≤q eval 1 f .low → eval 1 g .high ≤q units b →
+apart : {f g : Formula} {v w : ℕ} {low high : ℤ} (a b : ℤ) →
+    (units a ≤q eval 1 f .low) × (eval 1 g .high ≤q units b) →
     EnclosedWithin v f low high → EnclosedWithin w g low high → up a + down b ≤ up b + down a + v
 unfolding ends up down
-apart f g v w {low} {high} a b least most p q =
+apart {v = v} {low = low} {high} a b far p q =
     let x = p .encloses .meets 1 (le-refl 1) in
     let y = q .encloses .meets 1 (le-refl 1) in
-    let above = unit-order a high (≤q-trans least (≤q-trans (x .right .from) (x .left .to))) in
-    let below = unit-order low b (≤q-trans (y .left .from) (≤q-trans (y .right .to) most)) in
-    omega (arith, above, below, le-out high (low +ℤ pos v) (p .narrow .le), add-is low (pos v))
+    let above = units-le a high (≤q-trans (far .0) (≤q-trans (x .right .from) (x .left .to))) in
+    let below = units-le low b (≤q-trans (y .left .from) (≤q-trans (y .right .to) (far .1))) in
+    omega (arith, le-out high (low +ℤ pos v) (p .narrow .le), add-is low (pos v))
 
 -- the ends of the median are the first two values
 same-ends : {l h m n l' h' m' n' : ℤ} {values : List ℤ} → values ≡ l ∷ h ∷ m ∷ n ∷ [] →
@@ -56,20 +56,14 @@ same-ends e f = (cc, cc)
 
 -- scenarios that are not refused, the median of one at least a units and that of the other at most b, share no answer
 no-shared-answer : (s t : Scenario) (a b : ℤ) → refusalOf s ≡ 0 → refusalOf t ≡ 0 →
-    units a ≤q eval 1 (median s) .low → eval 1 (median t) .high ≤q units b →
+    (units a ≤q eval 1 (median s) .low) × (eval 1 (median t) .high ≤q units b) →
     up b + down a + medianWidth s < up a + down b → NoSharedAnswer s t
 unfolding NoSharedAnswer
-no-shared-answer s t a b accepted accepted' least most far x p q =
+no-shared-answer s t a b accepted accepted' far wide x p q =
     let u = p .enclosed accepted in
     let w = q .enclosed accepted' in
     let same = same-ends (u .four) (w .four) in
-    let d =
-    apart (median s) (median t) (medianWidth s) (medianWidth t) a b least most (u .median-enclosed)
-    (rw (same .0, same .1) (w .median-enclosed)) in
-    omega (arith, d)
-
-abbrev neg : ℕ → ℤ
-neg n = negℤ (pos n)
+    omega (arith, apart {w = medianWidth t} a b far (u .median-enclosed) (rw (same .0, same .1) (w .median-enclosed)))
 
 -- ---- Idriss: the pairs at fineness 1
 
@@ -84,8 +78,8 @@ idriss-apart : NoSharedAnswer idrissStrong idrissWeak
 unfolding medianWidth up down refusalOf refusalBy
 idriss-apart =
     let t = both (leQ (units (pos 0)) (eval 1 (median idrissStrong) .low)) _ idriss-far in
-    no-shared-answer idrissStrong idrissWeak (pos 0) (neg 1_000_000_000) refl refl (record { le = t .0 })
-    (record { le = t .1 }) (omega arith)
+    no-shared-answer idrissStrong idrissWeak (pos 0) (neg 1_000_000_000) refl refl
+    (record { le = t .0 }, record { le = t .1 }) (omega arith)
 
 -- ---- Boore-Atkinson: coarse pairs, as the sums of ln R² have 8,000 terms and more at fineness 1
 
@@ -100,11 +94,9 @@ far-shows : (f g : Formula) (a b : ℤ) → T (far f g a b) →
 unfolding far
 far-shows f g a b t =
     let u = both (sound coarse f && sound coarse g) _ t in
-    let v = both (sound coarse f) _ (u .0) in
-    let w = both (leQ (units a) (coarse f .low)) _ (u .1) in (
-      ≤q-trans (record { le = w .0 }) (coarse-holds (le-refl 1) f (v .0) .low .from),
-      ≤q-trans (coarse-holds (le-refl 1) g (v .1) .high .to) (record { le = w .1 }),
-    )
+    let v = each (sound coarse f) _ (coarse-holds (le-refl 1) f) (coarse-holds (le-refl 1) g) (u .0) in
+    let w = both (leQ (units a) (coarse f .low)) _ (u .1) in
+    (≤q-trans (record { le = w .0 }) (v .0 .low .from), ≤q-trans (v .1 .high .to) (record { le = w .1 }))
 
 booreAtkinson-far : T
     (far (median booreAtkinsonStrong) (median booreAtkinsonWeak) (neg 4_000_000_000) (neg 9_000_000_000))
@@ -117,9 +109,8 @@ booreAtkinson-far = tt
 booreAtkinson-apart : NoSharedAnswer booreAtkinsonStrong booreAtkinsonWeak
 unfolding medianWidth up down refusalOf refusalBy
 booreAtkinson-apart =
-    let t = far-shows (median booreAtkinsonStrong) (median booreAtkinsonWeak) _ _ booreAtkinson-far in
-    no-shared-answer booreAtkinsonStrong booreAtkinsonWeak (neg 4_000_000_000) (neg 9_000_000_000) refl refl (t .0)
-    (t .1) (omega arith)
+    no-shared-answer booreAtkinsonStrong booreAtkinsonWeak (neg 4_000_000_000) (neg 9_000_000_000) refl refl
+    (far-shows (median booreAtkinsonStrong) (median booreAtkinsonWeak) _ _ booreAtkinson-far) (omega arith)
 
 pub no-fixed-ends : NoFixedEnds
 unfolding NoFixedEnds

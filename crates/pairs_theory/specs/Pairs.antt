@@ -1,6 +1,7 @@
 -- Pairs of the models' formulas at a small fineness, as the checker works them out; another program has computed the
 -- same numbers from exact fractions. Document 01, 'What the numbers mean'.
-use mathlib.Core.List.{List, [], _∷_}
+use mathlib.Core.List.{List, [], _∷_, map}
+use mathlib.Core.Option.{some}
 use lib.IntN.{pos}
 use Rattle.exact_theory.specs.Fraction.{_over_}
 use Rattle.exact_theory.specs.Formula.{stated}
@@ -14,16 +15,16 @@ use Rattle.values_theory.specs.Table.{Check, cutAt, neg}
 -- stated p below ln 0.03, between it and ln 0.09, above that, and next to ln 0.03, where the pair reaches two branches
 abbrev pub pairs : List Check
 pairs =
-    cutAt 1 (median (scenarioOf (1 ∷ 676 ∷ 100 ∷ 4_500 ∷ 2 ∷ 75 ∷ [])))
+    cutAt 1 (median (scenarioOf (map some (1 ∷ 676 ∷ 100 ∷ 4_500 ∷ 2 ∷ 75 ∷ []))))
     (pos 274_689_796_266_994_915_466_518_188_997_902_496_951_795_380_128_349_727_240_714)
     (pos 344_948_681_115_479_763_951_366_673_846_387_345_436_643_864_976_834_575_725_562) ∷
-    cutAt 1 (sigma (scenarioOf (1 ∷ 450 ∷ 0 ∷ 7_600 ∷ 0 ∷ 0 ∷ [])))
+    cutAt 1 (sigma (scenarioOf (map some (1 ∷ 450 ∷ 0 ∷ 7_600 ∷ 0 ∷ 0 ∷ []))))
     (pos 774_815_706_722_267_805_071_638_375_602_080_412_040_712_292_899_052_755_735_984)
     (pos 775_480_706_722_267_805_071_638_375_602_080_412_040_712_292_899_052_755_735_984) ∷
-    cutAt 2 (sigma (scenarioOf (1 ∷ 675 ∷ 0 ∷ 7_600 ∷ 0 ∷ 750 ∷ [])))
+    cutAt 2 (sigma (scenarioOf (map some (1 ∷ 675 ∷ 0 ∷ 7_600 ∷ 0 ∷ 750 ∷ []))))
     (pos 764_928_210_230_391_410_627_323_072_987_875_810_669_482_044_282_485_816_079_446)
     (pos 764_934_043_563_724_743_960_656_406_321_209_144_002_815_377_615_819_149_412_779) ∷
-    cutAt 1 (sigma (scenarioOf (1 ∷ 790 ∷ 0 ∷ 7_600 ∷ 0 ∷ 10_000 ∷ [])))
+    cutAt 1 (sigma (scenarioOf (map some (1 ∷ 790 ∷ 0 ∷ 7_600 ∷ 0 ∷ 10_000 ∷ []))))
     (pos 768_439_766_029_309_477_059_054_586_042_377_574_019_942_972_295_097_723_757_826)
     (pos 768_463_099_362_642_810_392_387_919_375_710_907_353_276_305_628_431_057_091_160) ∷
     cutAt 1 (bnl (rowFor 200 .site) 2_500)

@@ -4,11 +4,13 @@ use mathlib.Core.Bool.{Bool, false, cond}
 use Prim.Native.Nat.{ℕ, _-_, _^_}
 use lib.Dec.{eqb, leb, ltb}
 use lib.IntN.{pos}
-use Rattle.signed_theory.specs.declared.Ends.{Ends}
+use Rattle.interval_theory.specs.declared.SignedEnds.{SignedEnds}
 use Rattle.logarithm_theory.specs.Evaluation.{lnOf, rootOf}
 use Rattle.scenario_theory.specs.declared.Scenario.{Scenario}
+use Rattle.scenario_theory.specs.declared.Place.{Place}
+use Rattle.scenario_theory.specs.declared.Place.the-variants as P
 use Rattle.scenario_theory.specs.Refusal.{refusalOf}
-use Rattle.scenario_theory.specs.Rows.{rowCount}
+use Rattle.scenario_theory.specs.Rows.{rowCount, idrissPlace, booreAtkinsonPlace}
 use Rattle.idriss_theory.specs.Rows.{rowAt}
 use Rattle.idriss_theory.specs.Evaluation.{medianOf, sigmaOf}
 use Rattle.boore_atkinson_theory.specs.Rows as rows
@@ -16,6 +18,7 @@ use Rattle.boore_atkinson_theory.specs.Evaluation as second
 use Rattle.engine_theory.specs.Evaluation.{scenarioWith}
 use Rattle.probes.specs.declared.Probed.{Probed}
 use Rattle.probes.specs.declared.ProbedEnds.{ProbedEnds}
+use Rattle.probes.specs.declared.ProbedPlace.{ProbedPlace}
 
 -- ---- logarithm and root
 
@@ -37,7 +40,7 @@ probedRoot x = cond (leb 536_870_912 x) (2 ^ 64 - 1) (rootOf x)
 abbrev pub noEnds : ProbedEnds
 noEnds = record { low = pos 1; high = pos 0 }
 
-abbrev pub told : Ends → ProbedEnds
+abbrev pub told : SignedEnds → ProbedEnds
 told e = record { low = e .low; high = e .high }
 
 -- k is a row, and s is accepted
@@ -45,7 +48,7 @@ unfoldable pub isTaken : ℕ → Scenario → Bool
 isTaken k s = cond (leb rowCount k) false (eqb (refusalOf s) 0)
 
 -- e where they are
-abbrev pub whereTaken : ℕ → Scenario → Ends → ProbedEnds
+abbrev pub whereTaken : ℕ → Scenario → SignedEnds → ProbedEnds
 whereTaken k s e = cond (isTaken k s) (told e) noEnds
 
 unfoldable pub probedIdriss : ℕ → ℕ → ℕ → ℕ → ℕ → ℕ → ProbedEnds
@@ -68,3 +71,13 @@ probedNonlinear k v low high =
     cond (ltb high low) noEnds
     (whereTaken k (scenarioWith 2 700 0 v 0 0)
     (second.nonlinearEndsOf (rows.rowAt k .site) v (record { low = low; high = high })))
+
+-- ---- where a period stands
+
+abbrev pub toldPlace : Place → ProbedPlace
+toldPlace (P.Row k) = record { kind = 0; row = k }
+toldPlace (P.Between k) = record { kind = 1; row = k }
+toldPlace P.Outside = record { kind = 2; row = 0 }
+
+unfoldable pub probedPlace : ℕ → ℕ → ProbedPlace
+probedPlace model period = toldPlace (cond (eqb model 1) (idrissPlace period) (booreAtkinsonPlace period))

@@ -2,16 +2,17 @@
 ghost use mathlib.Core.Path.{_≡_};
 ghost use Prim.Native.Nat.{_^_, _<_};
 ghost use lib.ListN.{length, getD};
-ghost use Rattle.signed_theory.specs.Evaluation.{SmallerThan};
+ghost use Rattle.interval_theory.specs.Signed.{SmallerThan};
 ghost use Rattle.record_theory.specs.Outcome.{restOf};
 ghost use Rattle.idriss_theory.specs.Tables.{takesTable3};
-ghost use Rattle.engine_theory.specs.Evaluation.{scenarioWith, rowOf};
+ghost use Rattle.engine_theory.specs.Evaluation.{scenarioWith};
 ghost use Rattle.probes.specs.Probe.{isTaken, probedLn, probedRoot, noEnds, told, probedIdriss};
 ghost use Rattle.probes.specs.Probe.{probedIdrissSigma, probedBooreAtkinson, probedBooreAtkinsonSigma};
-ghost use Rattle.probes.specs.Probe.{probedNonlinear};
-use scenario_rows::NO_ROW;
+ghost use Rattle.probes.specs.Probe.{probedNonlinear, toldPlace, probedPlace};
+use interval_theory::SignedEnds;
+use scenario_theory::Check;
+use scenario_theory::Place;
 use scenario_theory::Scenario;
-use signed_theory::Ends;
 
 // The ends of a logarithm. Where there are none, low is 1 and high 0.
 #[repr(C)]
@@ -25,6 +26,13 @@ pub struct Probed {
 pub struct ProbedEnds {
     pub low: i64,
     pub high: i64,
+}
+
+// The place of a period: 0 for row k, 1 for between the rows k and k + 1, 2 for neither.
+#[repr(C)]
+pub struct ProbedPlace {
+    pub kind: u8,
+    pub row: usize,
 }
 
 #[no_mangle]
@@ -58,15 +66,25 @@ pub extern "C" fn probe_root(x: u64) -> u64
     logarithm::root(x)
 }
 
-// The row of a period in the tables of Idriss for model 1, of Boore-Atkinson for any other.
+fn tell_place(p: Place) -> ProbedPlace
+    ensures { λ r. ⌜ r ≡ toldPlace p ⌝ }
+{
+    match p {
+        Place::Row(row) => ProbedPlace { kind: 0, row },
+        Place::Between(row) => ProbedPlace { kind: 1, row },
+        Place::Outside => ProbedPlace { kind: 2, row: 0 },
+    }
+}
+
+// Where a period stands in the tables of Idriss for model 1, of Boore-Atkinson for any other.
 #[no_mangle]
-pub extern "C" fn probe_row(model: u8, period: u16) -> usize
-    ensures { λ r. ⌜ r ≡ rowOf model period ⌝ }
+pub extern "C" fn probe_place(model: u8, period: u16) -> ProbedPlace
+    ensures { λ r. ⌜ r ≡ probedPlace model period ⌝ }
 {
     if model == 1 {
-        return scenario_rows::idriss_row(period);
+        return tell_place(scenario_rows::idriss_place(period));
     }
-    scenario_rows::boore_atkinson_row(period)
+    tell_place(scenario_rows::boore_atkinson_place(period))
 }
 
 // How many bytes the rest of the record at the front of s has.
@@ -100,7 +118,7 @@ fn none() -> ProbedEnds
     ProbedEnds { low: 1, high: 0 }
 }
 
-fn tell(e: Ends) -> ProbedEnds
+fn tell(e: SignedEnds) -> ProbedEnds
     requires { ⌜ SmallerThan (2 ^ 53) e ⌝ }
     ensures { λ r. ⌜ r ≡ told e ⌝ }
 {
@@ -122,7 +140,7 @@ fn taken(
 ) -> bool
     ensures { λ r. ⌜ r ≡ isTaken k (scenarioWith model magnitude distance velocity mechanism period) ⌝ }
 {
-    if NO_ROW <= k {
+    if 22 <= k {
         return false;
     }
     let s = Scenario {
@@ -174,10 +192,18 @@ pub extern "C" fn probe_idriss(
 pub extern "C" fn probe_idriss_sigma(period: u16, magnitude: u16) -> ProbedEnds
     ensures { λ r. ⌜ r ≡ probedIdrissSigma period magnitude ⌝ }
 {
-    if taken(0, 1, magnitude, 0, 7_600, 0, period) {
-        return tell(idriss::sigma(period, magnitude));
+    let s = Scenario {
+        model: 1,
+        magnitude,
+        distance: 0,
+        velocity: 7_600,
+        mechanism: 0,
+        period,
+    };
+    match scenario::check(s) {
+        Check::Accepted(k) => tell(idriss::sigma(k, period, magnitude)),
+        Check::Refused(_) => none(),
     }
-    none()
 }
 
 // The median of Boore-Atkinson by row k.
@@ -217,7 +243,7 @@ pub extern "C" fn probe_nonlinear(k: usize, velocity: u16, low: u64, high: u64) 
         return none();
     }
     if taken(k, 2, 700, 0, velocity, 0, 0) {
-        return tell(boore_atkinson::nonlinear(k, velocity, logarithm_theory::Ends { low, high }));
+        return tell(boore_atkinson::nonlinear(k, velocity, interval_theory::Ends { low, high }));
     }
     none()
 }

@@ -6,7 +6,7 @@ ghost use lib.ListN.{length, take, drop};
 ghost use denote.Ref.{ptr};
 ghost use Rattle.record_theory.specs.Layout.{Bytes, layout, numberOf, absentWritten};
 ghost use Rattle.record_theory.specs.Outcome.{scenarioIn, readOf, restAt, restOf, ReadPromise};
-ghost use Rattle.record_theory.specs.Steps.{Complete, frontRefusal, fieldRefusal};
+ghost use Rattle.record_theory.specs.Steps.{Complete, frontRefusal, fieldCheck, rowReadingOf, rowless};
 use record_map::ABSENT_MECHANISM;
 use record_map::ABSENT_PERIOD;
 use record_map::ABSENT_VELOCITY;
@@ -14,6 +14,8 @@ use record_map::map_refusal;
 use record_map::more_if;
 use record_map::record_length;
 pub use record_theory::Reading;
+pub use record_theory::RowReading;
+use scenario_theory::Check;
 use scenario_theory::Scenario;
 
 fn byte(s: &[u8], at: usize) -> u8
@@ -123,14 +125,33 @@ fn front_refusal(s: &[u8]) -> u8
     0
 }
 
-// The checks of the fields.
-fn field_refusal(m: u8, x: Scenario) -> u8
-    ensures { λ r. ⌜ r ≡ fieldRefusal m x ⌝ }
+// The checks of the fields, with the row of the period.
+fn field_check(m: u8, x: Scenario) -> Check
+    ensures { λ r. ⌜ r ≡ fieldCheck m x ⌝ }
 {
     if absent_written(m, x) {
-        return 11;
+        return Check::Refused(11);
     }
-    scenario::refusal(x)
+    scenario::check(x)
+}
+
+// Reads the record at the front of s, with the row of the period, so that nobody has to look it up again.
+pub fn read_with_row(s: &[u8]) -> RowReading
+    ensures { λ r. ⌜ r ≡ rowReadingOf (now (s .entry)) ⌝ }
+    ensures { λ r. ⌜ ReadPromise (now (s .entry)) (rowless r) ⌝ }
+    ensures { λ _. ⌜ Bytes (now (s .entry)) ⌝ }
+{
+    let front = front_refusal(s);
+    if front != 0 {
+        return RowReading::Refused(front);
+    }
+    let m = s[0];
+    let x = fields(s);
+    let c = field_check(m, x);
+    match c {
+        Check::Accepted(row) => RowReading::Read(x, record_length(m), row),
+        Check::Refused(k) => RowReading::Refused(k),
+    }
 }
 
 // Reads the record at the front of s. The laws by which reading and writing undo each other ask that s is bytes.
@@ -139,18 +160,10 @@ pub fn read(s: &[u8]) -> Reading
     ensures { λ r. ⌜ ReadPromise (now (s .entry)) r ⌝ }
     ensures { λ _. ⌜ Bytes (now (s .entry)) ⌝ }
 {
-    let front = front_refusal(s);
-    if front != 0 {
-        return Reading::Refused(front);
+    match read_with_row(s) {
+        RowReading::Read(x, n, _) => Reading::Read(x, n),
+        RowReading::Refused(k) => Reading::Refused(k),
     }
-    let m = s[0];
-    let x = fields(s);
-    let k = field_refusal(m, x);
-    if k != 0 {
-        return Reading::Refused(k);
-    }
-    let n = record_length(m);
-    Reading::Read(x, n)
 }
 
 // The part of s after the record that is read at its front, none of a refused read: its bytes, and that it lies in s,

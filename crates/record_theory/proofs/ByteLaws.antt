@@ -2,7 +2,7 @@
 use mathlib.Core.Path.{_≡_, refl, ap}
 use mathlib.Core.List.{List, [], _∷_, _++_}
 use Prim.Native.Nat.{ℕ, zero, suc, _+_, _*_, _/_, _%_, _^_, _≤_, _<_}
-use native.Mathlib.Nat.{pow-succ', le-of-suc-le-suc, not-suc-le-zero}
+use native.Mathlib.Nat.{le-of-suc-le-suc, not-suc-le-zero}
 use native.Mathlib.Omega.{arith}
 use lib.ListN.{length, take, drop}
 use lib.Seq.{getD-drop}
@@ -21,12 +21,6 @@ pub number-back : (w x : ℕ) → numberOf (bytesOf (suc w) x) ≡ x
 number-back zero x = omega arith
 number-back (suc w) x = rw (number-back w (x / 256)) (omega arith)
 
-low : (a n : ℕ) → a < 256 → (a + 256 * n) % 256 ≡ a
-low a n h = omega arith
-
-high : (a n : ℕ) → a < 256 → (a + 256 * n) / 256 ≡ n
-high a n h = omega arith
-
 -- and bytes are those of their number
 pub bytes-back : (w : ℕ) (s : List ℕ) → Bytes s → w ≤ length s → bytesOf w (numberOf (take w s)) ≡ take w s
 bytes-back zero s h l = refl
@@ -34,7 +28,9 @@ bytes-back (suc w) [] h l = absurd (not-suc-le-zero l)
 bytes-back (suc zero) (a ∷ s) h l = ap (λ (x : ℕ). x ∷ []) (omega arith)
 bytes-back (suc (suc w)) (a ∷ s) h l =
     let n = numberOf (take (suc w) s) in
-    rw (low a n (h 0), high a n (h 0), bytes-back (suc w) s (λ i. h (suc i)) (le-of-suc-le-suc l))
+    let low : (a + 256 * n) % 256 ≡ a = omega (arith, h 0) in
+    let high : (a + 256 * n) / 256 ≡ n = omega (arith, h 0) in
+    rw (low, high, bytes-back (suc w) s (λ i. h (suc i)) (le-of-suc-le-suc l))
 
 -- ---- lists of bytes
 
@@ -49,13 +45,10 @@ pub bytes-append : (s t : List ℕ) → Bytes s → Bytes t → Bytes (s ++ t)
 bytes-append [] t h g = g
 bytes-append (a ∷ s) t h g = bytes-cons a (s ++ t) (h 0) (bytes-append s t (λ i. h (suc i)) g)
 
-shorter : (x k : ℕ) → x < 256 * k → x / 256 < k
-shorter x k h = omega arith
-
 -- the bytes of a number that fits the width
 pub bytes-fit : (w x : ℕ) → x < 256 ^ w → Bytes (bytesOf w x)
 bytes-fit zero x h = bytes-none
 bytes-fit (suc zero) x h = bytes-cons x [] h bytes-none
 bytes-fit (suc (suc w)) x h =
     bytes-cons (x % 256) (bytesOf (suc w) (x / 256)) (omega arith)
-    (bytes-fit (suc w) (x / 256) (shorter x (256 ^ suc w) (rw (pow-succ' 256 (suc w)) at h)))
+    (bytes-fit (suc w) (x / 256) (omega arith))

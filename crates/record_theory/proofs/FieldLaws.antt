@@ -2,6 +2,7 @@
 use mathlib.Core.Path.{_≡_, refl, ap, _∙_}
 use mathlib.Core.Bool.{Bool, cond, _&&_, _||_, or-false}
 use mathlib.Core.List.{List, [], _∷_}
+use mathlib.Core.Option.{Option, none, some}
 use Prim.Native.Nat.{ℕ, _+_, _*_}
 use native.Mathlib.Nat.{add-zero}
 use native.Mathlib.Omega.{arith}
@@ -9,10 +10,10 @@ use lib.Dec.{eqb}
 use lib.ListN.{getD, take, drop}
 use lib.Seq.{drop-drop, getD-drop}
 use Rattle.scenario_theory.specs.declared.Scenario.{Scenario}
-use Rattle.record_theory.specs.Layout.{absentWritten, Field, layout, absentNumber, stands, numberOf, sizeOf}
-use Rattle.record_theory.specs.Layout.{numbersOf}
+use Rattle.record_theory.specs.Layout.{absentVelocity, absentMechanism, absentPeriod, Field, layout, stands}
+use Rattle.record_theory.specs.Layout.{numberOf, sizeOf, numbersOf, absentWritten}
 use Rattle.record_theory.specs.Outcome.{mapIn, scenarioIn, lengthBy, mapRefusal}
-use Rattle.record_theory.specs.Steps.{absentVelocity, absentMechanism, absentPeriod}
+use Rattle.record_theory.proofs.AbsentLaws.{is-absent, bit-or}
 use Rattle.record_theory.proofs.MapLaws.{passed}
 
 -- where the mechanism and the period stand
@@ -24,19 +25,17 @@ periodAt m = mechanismAt m + cond (stands 4 m) 1 0
 
 pub length-is : (m : ℕ) → mapRefusal m ≡ 0 → lengthBy m ≡ periodAt m + cond (stands 5 m) 2 0
 unfolding lengthBy sizeOf
-length-is m e =
-    let p = passed m e in
-    simp (p .model, p .magnitude, p .distance) (omega arith)
+length-is m e = let p = passed m e in simp (p .model, p .magnitude, p .distance) (omega arith)
 
 -- the number of so many bytes at a place
 abbrev pub numberAt : ℕ → ℕ → List ℕ → ℕ
 numberAt width at s = numberOf (take width (drop at s))
 
 -- the numbers of the fields, each at its place
-abbrev numbersAt : List Field → ℕ → ℕ → List ℕ → List ℕ
+abbrev numbersAt : List Field → ℕ → ℕ → List ℕ → List (Option ℕ)
 numbersAt [] m at s = []
 numbersAt (f ∷ fs) m at s =
-    cond (stands (f .bit) m) (numberAt (f .width) at s) (absentNumber (f .absent)) ∷
+    cond (stands (f .bit) m) (some (numberAt (f .width) at s)) none ∷
     numbersAt fs m (at + cond (stands (f .bit) m) (f .width) 0) s
 
 numbers-at : (fs : List Field) (m at : ℕ) (s : List ℕ) → numbersOf fs m (drop at s) ≡ numbersAt fs m at s
@@ -59,7 +58,7 @@ pub scenario-is : (s : List ℕ) → mapRefusal (mapIn s) ≡ 0 →
 unfolding scenarioIn
 scenario-is s e =
     let p = passed (mapIn s) e in
-    rw (numbers-at layout (mapIn s) 1 s) (simp (p .model, p .magnitude, p .distance))
+    rw (numbers-at layout (mapIn s) 1 s) (simp (p .model, p .magnitude, p .distance, bit-or))
 
 -- a byte, and two
 front-byte : (s : List ℕ) → numberOf (take 1 s) ≡ getD s 0 0
@@ -82,4 +81,4 @@ pub absent-written-is : (m : ℕ) (x : Scenario) {r a b c : Bool} → r ≡ (a |
     a ≡ (eqb (x .velocity) absentVelocity && stands 3 m) → b ≡ (eqb (x .mechanism) absentMechanism && stands 4 m) →
     c ≡ (eqb (x .period) absentPeriod && stands 5 m) → r ≡ absentWritten layout m x
 unfolding absentWritten
-absent-written-is m x e a b c = rw (e, a, b, c, or-false)
+absent-written-is m x e a b c = simp (e, a, b, c, is-absent, or-false)

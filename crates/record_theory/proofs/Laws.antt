@@ -31,9 +31,7 @@ module _ (x : Scenario) (e : refusalOf x ≡ 0) where
   pub record-is-written : (lent : List ℕ) → length (recordOf x) ≤ length lent →
       (writeOf x lent ≡ Length (length (recordOf x))) ×
       (lentAfter x lent ≡ recordOf x ++ drop (length (recordOf x)) lent)
-  record-is-written lent l =
-      let w = is-written x lent e l in
-      (sym (w .answer), sym (w .bytes))
+  record-is-written lent l = let w = is-written x lent e refl l refl in (sym (w .0), sym (w .1 .1))
 
 -- ---- what is written is read back as the scenario, and the rest is untouched
 
@@ -44,33 +42,25 @@ module _ (x : Scenario) (lent : List ℕ) (n : ℕ) (e : writeOf x lent ≡ Leng
       rw (w .bytes, read-written x (drop n lent) (w .accepted), w .size) refl
 
   pub later-is-rest : restOf (lentAfter x lent) ≡ drop n lent
-  later-is-rest =
-      let w = written-as x lent n e in
-      rw (w .bytes) (rest-written x (drop n lent) (w .accepted))
+  later-is-rest = let w = written-as x lent n e in rw (w .bytes) (rest-written x (drop n lent) (w .accepted))
 
 -- ---- what is read is an accepted scenario, and is written as exactly the bytes that were read
 
 module _ (s : List ℕ) (h : Bytes s) (x : Scenario) (n : ℕ) (e : readOf s ≡ Read x n) where
   pub read-is-accepted : refusalOf x ≡ 0
-  read-is-accepted =
-      let r = read-as s x n e in
-      rw (r .scenario) at (r .passes .taken)
+  read-is-accepted = let r = read-as s x n e in rw (r .scenario) at (r .passes .taken)
 
   pub read-is-record : recordOf x ≡ take n s
-  read-is-record =
-      let r = read-as s x n e in
-      rw (← r .scenario, ← r .size) (record-read s h (r .passes))
+  read-is-record = let r = read-as s x n e in rw (← r .scenario, ← r .size) (record-read s h (r .passes))
 
   record-size : length (recordOf x) ≡ n
-  record-size =
-      let r = read-as s x n e in
-      ap length read-is-record ∙ length-take-le n s (omega arith)
+  record-size = let r = read-as s x n e in ap length read-is-record ∙ length-take-le n s (omega arith)
 
   pub read-is-written : (lent : List ℕ) → n ≤ length lent →
       (writeOf x lent ≡ Length n) × (lentAfter x lent ≡ take n s ++ drop n lent)
   read-is-written lent l =
-      let w = is-written x lent read-is-accepted (rw record-size l) in
-      (sym (rw record-size at (w .answer)), sym (rw (record-size, read-is-record) at (w .bytes)))
+      let w = is-written x lent read-is-accepted (sym record-size) l refl in
+      (sym (w .0), sym (rw (record-size, read-is-record) at (w .1 .1)))
 
 -- ---- a record that is read has six bytes or more, and is within the bytes
 

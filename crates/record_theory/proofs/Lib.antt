@@ -1,3 +1,4 @@
+pub mod AbsentLaws
 pub mod Agreement
 pub mod ByteLaws
 pub mod FieldLaws

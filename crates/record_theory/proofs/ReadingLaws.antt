@@ -1,55 +1,56 @@
 -- What reading answers, check by check, and what an answer says of the bytes.
 use mathlib.Core.Path.{_≡_, refl, sym, ap, _∙_}
-use mathlib.Core.Bool.{false}
+use mathlib.Core.Bool.{true, false}
 use mathlib.Core.List.{List, []}
-use Prim.Native.Nat.{ℕ, zero, suc, _≤_, _<_}
+use Prim.Native.Nat.{ℕ, zero, suc}
 use native.Mathlib.Omega.{arith}
-use borrow.Author.Tests.{eqb-false, ltb-false}
-use lib.Dec.{eqb, ltb}
+use borrow.Author.Tests.{ltb-false}
+use lib.Dec.{eqb}
 use lib.ListN.{length, drop}
 use Rattle.scenario_theory.specs.declared.Scenario.{Scenario}
+use Rattle.scenario_theory.specs.declared.Check.{Check}
+use Rattle.scenario_theory.specs.declared.Check.the-variants as C
 use Rattle.scenario_theory.specs.Checks.{_when_, _otherwise_, unlessRefused}
 use Rattle.scenario_theory.specs.Refusal.{refusalOf}
+use Rattle.scenario_theory.specs.Rows.{rowOf, Looked, checkOf}
 use Rattle.scenario_theory.proofs.CheckLaws.{is-first, first-of-three, none-of, not-when, is-refused}
-use Rattle.record_theory.specs.declared.Reading.{Reading}
+use Rattle.record_theory.specs.declared.RowReading.{RowReading}
+use Rattle.record_theory.specs.declared.RowReading.the-variants as T
 use Rattle.record_theory.specs.declared.Reading.the-variants.{Read, Refused}
 use Rattle.record_theory.specs.Layout.{layout, absentWritten}
 use Rattle.record_theory.specs.Outcome.{mapIn, scenarioIn, lengthBy, mapRefusal, readRefusal, readOf, restAt}
-use Rattle.record_theory.specs.Outcome.{restOf, ReadPromise}
-use Rattle.record_theory.specs.Steps.{frontRefusal, fieldRefusal}
+use Rattle.record_theory.specs.Outcome.{restOf, readingNumber, readingValues, ReadPromise}
+use Rattle.record_theory.specs.Steps.{frontRefusal, fieldRefusal, fieldCheck, rowReadingOf, rowless, Complete}
+
+-- ---- by the number of a refusal
+
+-- what holds of either answer holds of the one that is given
+pub by-number : {A : Type 0} (P : A → Type 0) (k : ℕ) {a b : A} → (k ≡ 0 → P a) → ((k ≡ 0 → ⊥) → P b) →
+    P (unlessRefused k a b)
+by-number P zero f g = f refl
+by-number P (suc k) f g = g (λ z. omega arith)
+
+-- a function of the answer that is given
+pub through : {A B : Type 0} (f : A → B) (k : ℕ) (a b : A) → f (unlessRefused k a b) ≡ unlessRefused k (f a) (f b)
+through f zero a b = refl
+through f (suc k) a b = refl
 
 -- ---- the checks in two parts, as the program makes them
 
 in-two : (s : List ℕ) → (frontRefusal s otherwise fieldRefusal (mapIn s) (scenarioIn s)) ≡ readRefusal s
 unfolding frontRefusal fieldRefusal readRefusal
-in-two s =
-    let front = 7 when eqb (length s) 0 in
-    let fields = 7 when ltb (length s) (lengthBy (mapIn s)) in
-    let later = fieldRefusal (mapIn s) (scenarioIn s) in
-    first-of-three front (mapRefusal (mapIn s) otherwise fields) later
-    ∙ ap (λ (k : ℕ). front otherwise k) (first-of-three (mapRefusal (mapIn s)) fields later)
+in-two s = simp first-of-three
 
--- s passes the checks of its front
-pub record Front (s : List ℕ) : Type 0 where
-  pub some : 0 < length s
-  pub passes : mapRefusal (mapIn s) ≡ 0
-  pub room : lengthBy (mapIn s) ≤ length s
-
-pub front-passes : (s : List ℕ) → frontRefusal s ≡ 0 → Front s
+pub front-passes : (s : List ℕ) → frontRefusal s ≡ 0 → Complete s
 unfolding frontRefusal
 front-passes s e =
     let a = none-of (7 when eqb (length s) 0) _ e in
     let b = none-of (mapRefusal (mapIn s)) _ (a .1) in
-    let z = eqb-false (length s) 0 (not-when 6 _ (a .0)) in
-    record {
-      some = omega arith;
-      passes = b .0;
-      room = ltb-false (length s) (lengthBy (mapIn s)) (not-when 6 _ (b .1));
-    }
+    record { passes = b .0; room = ltb-false (length s) (lengthBy (mapIn s)) (not-when 6 _ (b .1)) }
 
 -- s passes every check
 pub record Accepted (s : List ℕ) : Type 0 where
-  pub front : Front s
+  pub front : Complete s
   pub apart : absentWritten layout (mapIn s) (scenarioIn s) ≡ false
   pub taken : refusalOf (scenarioIn s) ≡ 0
 
@@ -60,42 +61,63 @@ accepted s e =
     let b = none-of (11 when absentWritten layout (mapIn s) (scenarioIn s)) _ (a .1) in
     record { front = front-passes s (a .0); apart = not-when 10 _ (b .0); taken = b .1 }
 
--- ---- the contract of reading, of an answer
+-- the checks of the fields: a number that is written out, and then those of the scenario
+module _ (m : ℕ) (x : Scenario) where
+  pub written-out : absentWritten layout m x ≡ true → C.Refused 11 ≡ fieldCheck m x
+  unfolding fieldCheck fieldRefusal
+  written-out e = rw e refl
 
-pub record Answers (s : List ℕ) (r : Reading) : Type 0 where
-  pub answer : r ≡ readOf s
-  pub promise : ReadPromise s r
+  pub not-written-out : {c : Check} → absentWritten layout m x ≡ false → c ≡ checkOf x → c ≡ fieldCheck m x
+  unfolding fieldCheck fieldRefusal checkOf
+  not-written-out e h = rw e h
+
+-- ---- the answers of reading with the row
 
 module _ (s : List ℕ) where
-  read-promise : ReadPromise s (readOf s)
-  unfolding readOf
-  read-promise = go (readRefusal s) refl
-    where
-      go : (k : ℕ) → readRefusal s ≡ k →
-          ReadPromise s (unlessRefused k (Read (scenarioIn s) (lengthBy (mapIn s))) (Refused k))
-      go zero e = record { number = sym e; values = rw e refl }
-      go (suc k) e = record { number = sym e; values = rw e refl }
+  refused : (k : ℕ) → k ≡ readRefusal s → (k ≡ 0 → ⊥) → T.Refused k ≡ rowReadingOf s
+  unfolding rowReadingOf
+  refused k e h = rw (← e) (is-refused k _ (T.Refused k) h)
 
-  answers : {r : Reading} → r ≡ readOf s → Answers s r
-  answers e = record { answer = e; promise = rw e read-promise }
-
-  refused : (k : ℕ) → k ≡ readRefusal s → (k ≡ 0 → ⊥) → Answers s (Refused k)
-  unfolding readOf
-  refused k e h = answers (rw (← e) (is-refused k _ (Refused k) h))
-
-  pub refused-front : (k : ℕ) → k ≡ frontRefusal s → (k ≡ 0 → ⊥) → Answers s (Refused k)
+  pub refused-front : (k : ℕ) → k ≡ frontRefusal s → (k ≡ 0 → ⊥) → T.Refused k ≡ rowReadingOf s
   refused-front k e h = refused k (e ∙ (is-first (frontRefusal s) _ (λ z. h (e ∙ z)) ∙ in-two s)) h
 
-  pub refused-fields : (k : ℕ) → frontRefusal s ≡ 0 → k ≡ fieldRefusal (mapIn s) (scenarioIn s) → (k ≡ 0 → ⊥) →
-      Answers s (Refused k)
-  refused-fields k e f h = refused k (f ∙ rw e at (in-two s)) h
+  module _ (front : frontRefusal s ≡ 0) where
+    numbers : fieldRefusal (mapIn s) (scenarioIn s) ≡ readRefusal s
+    numbers = rw front at (in-two s)
 
-  pub is-read : frontRefusal s ≡ 0 → fieldRefusal (mapIn s) (scenarioIn s) ≡ 0 →
-      Answers s (Read (scenarioIn s) (lengthBy (mapIn s)))
+    pub refused-fields : {k : ℕ} → fieldCheck (mapIn s) (scenarioIn s) ≡ C.Refused k → T.Refused k ≡ rowReadingOf s
+    unfolding fieldCheck
+    refused-fields {k} e =
+        by-number (λ r. r ≡ C.Refused k → T.Refused k ≡ rowReadingOf s) (fieldRefusal (mapIn s) (scenarioIn s))
+        (λ p q. let z : _≡_ {A = ℕ} 0 1 = cc in absurd (omega arith))
+        (λ p q. let same : k ≡ fieldRefusal (mapIn s) (scenarioIn s) = cc in
+        refused k (same ∙ numbers) (λ z. p (sym same ∙ z))) e
+
+    pub is-read : {row : ℕ} → fieldCheck (mapIn s) (scenarioIn s) ≡ C.Accepted row →
+        T.Read (scenarioIn s) (lengthBy (mapIn s)) row ≡ rowReadingOf s
+    unfolding fieldCheck rowReadingOf
+    is-read {row} e =
+        by-number (λ r. r ≡ C.Accepted row → T.Read (scenarioIn s) (lengthBy (mapIn s)) row ≡ rowReadingOf s)
+        (fieldRefusal (mapIn s) (scenarioIn s))
+        (λ p q. let same : row ≡ rowOf (scenarioIn s .model) (scenarioIn s .period) = cc in
+        rw (sym numbers ∙ p, same) refl)
+        (λ p q. let z : _≡_ {A = ℕ} 0 1 = cc in absurd (omega arith)) e
+
+  -- ---- the contract of reading: the row left out
+
+  forgotten : rowless (rowReadingOf s) ≡ readOf s
+  unfolding rowReadingOf readOf
+  forgotten = through rowless (readRefusal s) _ _
+
+  read-promise : ReadPromise s (readOf s)
   unfolding readOf
-  is-read e f =
-      let z : readRefusal s ≡ 0 = sym (in-two s) ∙ rw (e, f) refl in
-      answers (rw z refl)
+  read-promise = record {
+    number = by-number (λ r. readingNumber r ≡ readRefusal s) (readRefusal s) sym (λ n. refl);
+    values = through readingValues (readRefusal s) _ _;
+  }
+
+  pub read-of : {t : RowReading} → rowReadingOf s ≡ t → (rowless t ≡ readOf s) × ReadPromise s (rowless t)
+  read-of e = let f = ap rowless (sym e) ∙ forgotten in (f, rw f read-promise)
 
 -- ---- what an answer says
 
@@ -110,21 +132,18 @@ pub record ReadAs (s : List ℕ) (x : Scenario) (n : ℕ) : Type 0 where
 
 pub read-as : (s : List ℕ) (x : Scenario) (n : ℕ) → readOf s ≡ Read x n → ReadAs s x n
 unfolding readOf restAt restOf
-read-as s x n e = go (readRefusal s) refl e
-  where
-    go : (k : ℕ) → readRefusal s ≡ k →
-        unlessRefused k (Read (scenarioIn s) (lengthBy (mapIn s))) (Refused k) ≡ Read x n → ReadAs s x n
-    go zero p q =
-        let size : lengthBy (mapIn s) ≡ n = cc in
-        record {
-          number = p;
-          passes = accepted s p;
-          scenario = cc;
-          size = size;
-          place = rw (p, size) refl;
-          rest = rw (p, size) refl;
-        }
-    go (suc k) p q = let z : _≡_ {A = ℕ} 0 1 = cc in absurd (omega arith)
+read-as s x n e =
+    by-number (λ r. r ≡ Read x n → ReadAs s x n) (readRefusal s)
+    (λ p q. let size : lengthBy (mapIn s) ≡ n = cc in
+    record {
+      number = p;
+      passes = accepted s p;
+      scenario = cc;
+      size = size;
+      place = rw (p, size) refl;
+      rest = rw (p, size) refl;
+    })
+    (λ p q. let z : _≡_ {A = ℕ} 0 1 = cc in absurd (omega arith)) e
 
 -- s is refused with k, which is not 0
 pub record NotRead (s : List ℕ) (k : ℕ) : Type 0 where
@@ -135,11 +154,30 @@ pub record NotRead (s : List ℕ) (k : ℕ) : Type 0 where
 
 pub not-read : (s : List ℕ) (k : ℕ) → readOf s ≡ Refused k → NotRead s k
 unfolding readOf restAt restOf
-not-read s j e = go (readRefusal s) refl e
-  where
-    go : (k : ℕ) → readRefusal s ≡ k →
-        unlessRefused k (Read (scenarioIn s) (lengthBy (mapIn s))) (Refused k) ≡ Refused j → NotRead s j
-    go zero p q = let z : _≡_ {A = ℕ} 0 1 = cc in absurd (omega arith)
-    go (suc k) p q =
-        let same : suc k ≡ j = cc in
-        record { number = p ∙ same; some = λ z. absurd (omega arith); place = rw p refl; rest = rw p refl }
+not-read s k e =
+    by-number (λ r. r ≡ Refused k → NotRead s k) (readRefusal s)
+    (λ p q. let z : _≡_ {A = ℕ} 0 1 = cc in absurd (omega arith))
+    (λ p q. let same : readRefusal s ≡ k = cc in
+    record {
+      number = same;
+      some = λ z. p (same ∙ z);
+      place = sym (is-refused (readRefusal s) _ _ p);
+      rest = sym (is-refused (readRefusal s) _ _ p);
+    }) e
+
+-- ---- what reading with the row says
+
+pub record RowRead (s : List ℕ) (x : Scenario) (n row : ℕ) : Type 0 where
+  pub read : readOf s ≡ Read x n
+  pub looked : Looked x row
+
+pub row-read : (s : List ℕ) {x : Scenario} {n row : ℕ} → rowReadingOf s ≡ T.Read x n row → RowRead s x n row
+unfolding rowReadingOf
+row-read s {x} {n} {row} e =
+    let read = sym (read-of s e .0) in
+    let r = read-as s x n read in
+    let accepted = rw (r .scenario) at (r .passes .taken) in
+    let looked = by-number (λ r. r ≡ T.Read x n row → Looked x row) (readRefusal s)
+    (λ p q. record { accepted = accepted; row = cc })
+    (λ p q. let z : _≡_ {A = ℕ} 0 1 = cc in absurd (omega arith)) e in
+    record { read = read; looked = looked }

@@ -1,39 +1,31 @@
 -- The record of a scenario as runs of stores.
 use mathlib.Core.Path.{_≡_, _∙_}
-use mathlib.Core.List.{List, [], _∷_, _++_, append-nil}
-use mathlib.Core.Option.{some}
+use mathlib.Core.List.{List, _∷_, _++_, append-nil}
 use Prim.Native.Nat.{ℕ, _+_, _≤_}
 use native.Mathlib.Omega.{arith}
 use lib.ListN.{length, take, drop, length-append}
 use lib.Seq.{sets}
 use Rattle.scenario_theory.specs.declared.Scenario.{Scenario}
 use Rattle.stores_theory.specs.Stores.{Put}
-use Rattle.stores_theory.proofs.StoreLaws.{sets-append, sets-front}
-use Rattle.record_theory.specs.Layout.{layout, mapOf, partOf, partsOf, recordOf}
-use Rattle.record_theory.specs.Steps.{absentVelocity, absentMechanism, absentPeriod}
+use Rattle.stores_theory.proofs.StoreLaws.{sets-append, sets-front, put-then}
+use Rattle.record_theory.specs.Layout.{_unless_, absentVelocity, absentMechanism, absentPeriod, layout, mapOf}
+use Rattle.record_theory.specs.Layout.{partOf, partsOf, recordOf}
 
 -- ---- the fields that may be absent
 
 pub tail-length : (x : Scenario) →
     length (partsOf (drop 3 layout) x) ≡
-    length (partOf 2 (some absentVelocity) (x .velocity)) +
-    (length (partOf 1 (some absentMechanism) (x .mechanism)) + length (partOf 2 (some absentPeriod) (x .period)))
+    length (partOf 2 (x .velocity unless absentVelocity)) +
+    (length (partOf 1 (x .mechanism unless absentMechanism)) + length (partOf 2 (x .period unless absentPeriod)))
 unfolding partsOf
 tail-length x = simp (length-append, append-nil)
 
 pub tail-stores : (x : Scenario) {l l1 l2 l3 : List ℕ} {a b c : ℕ} →
-    Put 6 (partOf 2 (some absentVelocity) (x .velocity)) l a l1 →
-    Put a (partOf 1 (some absentMechanism) (x .mechanism)) l1 b l2 →
-    Put b (partOf 2 (some absentPeriod) (x .period)) l2 c l3 → l3 ≡ sets l 6 (partsOf (drop 3 layout) x)
+    Put 6 (partOf 2 (x .velocity unless absentVelocity)) l a l1 →
+    Put a (partOf 1 (x .mechanism unless absentMechanism)) l1 b l2 →
+    Put b (partOf 2 (x .period unless absentPeriod)) l2 c l3 → l3 ≡ sets l 6 (partsOf (drop 3 layout) x)
 unfolding partsOf
-tail-stores x {l} {l1} {l2} {l3} {a} {b} {c} p q r =
-    go (partOf 2 (some absentVelocity) (x .velocity)) (partOf 1 (some absentMechanism) (x .mechanism))
-    (partOf 2 (some absentPeriod) (x .period)) p q r
-  where
-    go : (u v w : List ℕ) → Put 6 u l a l1 → Put a v l1 b l2 → Put b w l2 c l3 → l3 ≡ sets l 6 (u ++ (v ++ (w ++ [])))
-    go u v w p q r =
-        rw (r .bytes, q .bytes, q .place, sets-append v w l1 a, p .bytes, p .place)
-        (rw (sets-append u (v ++ w) l 6, append-nil w))
+tail-stores x p q r = simp append-nil (put-then p (put-then q r) .bytes)
 
 -- ---- the whole record
 

@@ -1,6 +1,6 @@
 -- The record of a scenario: a map byte, then the fields whose bits stand.
 -- Document 01, 'Records and doubles', unless another place is named.
-use mathlib.Core.Bool.{Bool, false, cond, _&&_, _||_}
+use mathlib.Core.Bool.{Bool, true, false, cond, _&&_, _||_}
 use mathlib.Core.List.{List, [], _∷_, _++_}
 use mathlib.Core.Option.{Option, none, some}
 use Prim.Native.Nat.{ℕ, zero, suc, _+_, _*_, _/_, _%_, _^_, _<_}
@@ -8,50 +8,65 @@ use lib.Dec.{eqb}
 use lib.ListN.{getD, take, drop}
 use Rattle.scenario_theory.specs.declared.Scenario.{Scenario}
 
--- a field of the record: its bit in the map, how many bytes it has, which number of a scenario it holds and, if it may
--- be absent, the number that it then has
+-- a record has a number of each field, or none: the field is left out
+abbrev pub isAbsent : Option ℕ → Bool
+isAbsent none = true
+isAbsent (some x) = false
+
+infix 40 _unless_
+-- a number that is left out where it is d: "a field with that number is never written"
+abbrev pub _unless_ : ℕ → ℕ → Option ℕ
+x unless d = cond (eqb x d) none (some x)
+
+infix 40 _or_
+-- the number that a record has of a field, d where the field is left out
+abbrev pub _or_ : Option ℕ → ℕ → ℕ
+none or d = d
+(some x) or d = x
+
+-- "An absent velocity is 7600, mechanism 9, period 0"
+abbrev pub absentVelocity : ℕ
+absentVelocity = 7_600
+
+abbrev pub absentMechanism : ℕ
+absentMechanism = 9
+
+abbrev pub absentPeriod : ℕ
+absentPeriod = 0
+
+-- a field of the record: its bit in the map, how many bytes it has, and what is written of it for a scenario
 pub record Field : Type 0 where
   pub bit : ℕ
   pub width : ℕ
-  pub value : Scenario → ℕ
-  pub absent : Option ℕ
+  pub written : Scenario → Option ℕ
 
-abbrev pub field : ℕ → ℕ → (Scenario → ℕ) → Option ℕ → Field
-field bit width value absent = record { bit = bit; width = width; value = value; absent = absent }
+abbrev pub field : ℕ → ℕ → (Scenario → Option ℕ) → Field
+field bit width written = record { bit = bit; width = width; written = written }
 
 -- "in this order: bit 0 model (1 byte), 1 magnitude, 2 distance, 3 velocity (2 bytes each), 4 mechanism (1), 5 period
--- (2)"; "An absent velocity is 7600, mechanism 9, period 0"
+-- (2)"
 abbrev pub layout : List Field
 layout =
-    field 0 1 (λ s. s .model) none ∷
-    field 1 2 (λ s. s .magnitude) none ∷
-    field 2 2 (λ s. s .distance) none ∷
-    field 3 2 (λ s. s .velocity) (some 7_600) ∷
-    field 4 1 (λ s. s .mechanism) (some 9) ∷
-    field 5 2 (λ s. s .period) (some 0) ∷
+    field 0 1 (λ s. some (s .model)) ∷
+    field 1 2 (λ s. some (s .magnitude)) ∷
+    field 2 2 (λ s. some (s .distance)) ∷
+    field 3 2 (λ s. s .velocity unless absentVelocity) ∷
+    field 4 1 (λ s. s .mechanism unless absentMechanism) ∷
+    field 5 2 (λ s. s .period unless absentPeriod) ∷
     []
 
--- the scenario of six numbers in the layout's order
-abbrev pub scenarioOf : List ℕ → Scenario
+-- the scenario of what a record has of the fields, in the layout's order; a record that lacks one of the first three is
+-- refused (9), so that their 0 is never used
+abbrev pub scenarioOf : List (Option ℕ) → Scenario
 scenarioOf xs =
     record {
-      model = getD xs 0 0;
-      magnitude = getD xs 1 0;
-      distance = getD xs 2 0;
-      velocity = getD xs 3 0;
-      mechanism = getD xs 4 0;
-      period = getD xs 5 0;
+      model = getD xs 0 none or 0;
+      magnitude = getD xs 1 none or 0;
+      distance = getD xs 2 none or 0;
+      velocity = getD xs 3 none or absentVelocity;
+      mechanism = getD xs 4 none or absentMechanism;
+      period = getD xs 5 none or absentPeriod;
     }
-
--- x is the number of an absent field
-abbrev pub isAbsent : Option ℕ → ℕ → Bool
-isAbsent none x = false
-isAbsent (some d) x = eqb x d
-
--- the number of an absent field; where there is none, the record is turned away before it is asked for
-abbrev pub absentNumber : Option ℕ → ℕ
-absentNumber none = 0
-absentNumber (some d) = d
 
 -- bit k of the map byte m stands
 abbrev pub stands : ℕ → ℕ → Bool
@@ -73,17 +88,17 @@ unfoldable pub sizeOf : List Field → ℕ → ℕ
 sizeOf [] m = 0
 sizeOf (f ∷ fs) m = cond (stands (f .bit) m) (f .width) 0 + sizeOf fs m
 
--- the numbers of all fields, from the bytes that follow the map
-unfoldable pub numbersOf : List Field → ℕ → List ℕ → List ℕ
+-- what it has of each field, from the bytes that follow the map
+unfoldable pub numbersOf : List Field → ℕ → List ℕ → List (Option ℕ)
 numbersOf [] m s = []
 numbersOf (f ∷ fs) m s =
-    cond (stands (f .bit) m) (numberOf (take (f .width) s)) (absentNumber (f .absent)) ∷
+    cond (stands (f .bit) m) (some (numberOf (take (f .width) s))) none ∷
     numbersOf fs m (drop (cond (stands (f .bit) m) (f .width) 0) s)
 
--- "a field written with its absent number" ('What is turned away')
+-- "a field written with its absent number" ('What is turned away'): its bit stands, and the record of x leaves it out
 unfoldable pub absentWritten : List Field → ℕ → Scenario → Bool
 absentWritten [] m x = false
-absentWritten (f ∷ fs) m x = (isAbsent (f .absent) (f .value x) && stands (f .bit) m) || absentWritten fs m x
+absentWritten (f ∷ fs) m x = (isAbsent (f .written x) && stands (f .bit) m) || absentWritten fs m x
 
 -- ---- to a record
 
@@ -94,18 +109,19 @@ bytesOf zero x = []
 bytesOf (suc zero) x = x ∷ []
 bytesOf (suc (suc w)) x = x % 256 ∷ bytesOf (suc w) (x / 256)
 
--- the map byte: "a field with that number is never written"
+-- the map byte
 unfoldable pub mapOf : List Field → Scenario → ℕ
 mapOf [] x = 0
-mapOf (f ∷ fs) x = cond (isAbsent (f .absent) (f .value x)) 0 (2 ^ f .bit) + mapOf fs x
+mapOf (f ∷ fs) x = cond (isAbsent (f .written x)) 0 (2 ^ f .bit) + mapOf fs x
 
 -- and the fields
-abbrev pub partOf : ℕ → Option ℕ → ℕ → List ℕ
-partOf width absent x = cond (isAbsent absent x) [] (bytesOf width x)
+abbrev pub partOf : ℕ → Option ℕ → List ℕ
+partOf width none = []
+partOf width (some x) = bytesOf width x
 
 unfoldable pub partsOf : List Field → Scenario → List ℕ
 partsOf [] x = []
-partsOf (f ∷ fs) x = partOf (f .width) (f .absent) (f .value x) ++ partsOf fs x
+partsOf (f ∷ fs) x = partOf (f .width) (f .written x) ++ partsOf fs x
 
 -- "its one record" (demand 2)
 unfoldable pub recordOf : Scenario → List ℕ

@@ -2,7 +2,7 @@
 -- Document 01, 'Records and doubles' and 'What is turned away'.
 use mathlib.Core.Path.{_≡_}
 use mathlib.Core.Bool.{not, _&&_, _||_}
-use mathlib.Core.List.{List, [], _∷_, _++_, map}
+use mathlib.Core.List.{List, [], _∷_, _++_}
 use Prim.Native.Nat.{ℕ, _+_}
 use lib.Dec.{eqb, ltb}
 use lib.ListN.{length, getD, drop}
@@ -64,7 +64,7 @@ readingNumber (R.Refused k) = k
 
 -- the fields in the layout's order, and the record's length
 abbrev pub valuesOf : Scenario → ℕ → List ℕ
-valuesOf x n = map (λ f. f .value x) layout ++ (n ∷ [])
+valuesOf x n = x .model ∷ x .magnitude ∷ x .distance ∷ x .velocity ∷ x .mechanism ∷ x .period ∷ n ∷ []
 
 abbrev pub readingValues : Reading → List ℕ
 readingValues (R.Read x n) = valuesOf x n

@@ -12,3 +12,9 @@ pub enum Writing {
     Length(usize),
     Refused(u8),
 }
+
+// What is read, with the row of the period in the tables of the scenario's model.
+pub enum RowReading {
+    Read(Scenario, usize, usize),
+    Refused(u8),
+}

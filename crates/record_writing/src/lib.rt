@@ -4,9 +4,8 @@ ghost use mathlib.Core.List.{_∷_};
 ghost use Prim.Native.Nat.{_+_, _≤_, _<_};
 ghost use lib.ListN.{length, take, drop};
 ghost use lib.Seq.{sets};
-ghost use mathlib.Core.Option.{some};
 ghost use Rattle.stores_theory.specs.Stores.{Put};
-ghost use Rattle.record_theory.specs.Layout.{layout, mapOf, partOf, partsOf};
+ghost use Rattle.record_theory.specs.Layout.{_unless_, layout, mapOf, partOf, partsOf};
 ghost use Rattle.record_theory.specs.Outcome.{writeOf, lentAfter, WritePromise};
 use record_map::ABSENT_MECHANISM;
 use record_map::ABSENT_PERIOD;
@@ -27,8 +26,8 @@ fn map_byte(x: Scenario) -> u8
 
 // Puts a field of one byte at a place, unless it has its absent number, and answers the place after it.
 fn put_byte(out: &mut [u8], at: usize, x: u8, absent: u8) -> usize
-    requires { ⌜ at + length (partOf 1 (some absent) x) ≤ length (now out) ⌝ }
-    ensures { λ r. ⌜ Put at (partOf 1 (some absent) x) (now (out .entry)) r (now (out .exit)) ⌝ }
+    requires { ⌜ at + length (partOf 1 (x unless absent)) ≤ length (now out) ⌝ }
+    ensures { λ r. ⌜ Put at (partOf 1 (x unless absent)) (now (out .entry)) r (now (out .exit)) ⌝ }
 {
     if x == absent {
         return at;
@@ -39,8 +38,8 @@ fn put_byte(out: &mut [u8], at: usize, x: u8, absent: u8) -> usize
 
 // The same of a field of two bytes.
 fn put_word(out: &mut [u8], at: usize, x: u16, absent: u16) -> usize
-    requires { ⌜ at + length (partOf 2 (some absent) x) ≤ length (now out) ⌝ }
-    ensures { λ r. ⌜ Put at (partOf 2 (some absent) x) (now (out .entry)) r (now (out .exit)) ⌝ }
+    requires { ⌜ at + length (partOf 2 (x unless absent)) ≤ length (now out) ⌝ }
+    ensures { λ r. ⌜ Put at (partOf 2 (x unless absent)) (now (out .entry)) r (now (out .exit)) ⌝ }
 {
     if x == absent {
         return at;

@@ -10,9 +10,9 @@ ghost use Rattle.report_theory.specs.Lines.{lineOf, endBytes, lastLineOf, lengt
 ghost use Rattle.report_theory.specs.Steps.{Counted, wordOf, wordsFor, signBytes, wordBytes, bothBytes, headBytes};
 use engine_theory::Answer;
 use engine_theory::Enclosure;
+use interval_theory::SignedEnds;
 use report_theory::Word;
 use report_theory::Words;
-use signed_theory::Ends;
 
 // How many decimal digits n has.
 fn decimal_length(n: u64) -> usize
@@ -33,7 +33,7 @@ fn split(z: i64) -> Word
     }
 }
 
-fn split_ends(e: Ends) -> Words
+fn split_ends(e: SignedEnds) -> Words
     ensures { λ r. ⌜ r ≡ wordsFor e ⌝ }
 {
     Words {

@@ -7,12 +7,12 @@ use lib.Dec.{ltb}
 use lib.ListN.{length, drop}
 use Rattle.engine_theory.specs.declared.Answer.{Answer}
 use Rattle.engine_theory.specs.declared.Answer.the-variants as A
-use Rattle.engine_theory.specs.Promise.{answerValues}
+use Rattle.engine_theory.specs.Promise.{shownEnds}
 use Rattle.report_theory.specs.Text.{ascii, decimal, signedDecimal, spaced}
 
 -- "E and four ends in the order of the answer, or R and the number"; 69 is the byte of E, 82 that of R
 abbrev pub wordsOf : Answer → List (List ℕ)
-wordsOf (A.Enclosed e) = (69 ∷ []) ∷ map signedDecimal (answerValues (A.Enclosed e))
+wordsOf (A.Enclosed e) = (69 ∷ []) ∷ map signedDecimal (shownEnds (A.Enclosed e))
 wordsOf (A.Refused k) = (82 ∷ []) ∷ (decimal k ∷ [])
 
 -- the line, without its line end

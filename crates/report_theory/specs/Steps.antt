@@ -6,7 +6,7 @@ use Prim.Native.Nat.{ℕ, _≤_}
 use lib.ListN.{length}
 use lib.IntN.{ℤ, pos, natAbs}
 use lib.Signed.{ltZ}
-use Rattle.signed_theory.specs.declared.Ends.{Ends}
+use Rattle.interval_theory.specs.declared.SignedEnds.{SignedEnds}
 use Rattle.report_theory.specs.declared.Word.{Word}
 use Rattle.report_theory.specs.declared.Words.{Words}
 use Rattle.report_theory.specs.Text.{decimal}
@@ -20,7 +20,7 @@ pub record Counted (bytes : List ℕ) (most n : ℕ) : Type 0 where
 abbrev pub wordOf : ℤ → Word
 wordOf z = record { minus = ltZ z (pos 0); abs = natAbs z }
 
-abbrev pub wordsFor : Ends → Words
+abbrev pub wordsFor : SignedEnds → Words
 wordsFor e = record { low = wordOf (e .low); high = wordOf (e .high) }
 
 -- a space and, below zero, the sign

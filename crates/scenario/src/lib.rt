@@ -1,13 +1,15 @@
-// The first of the checks 1 to 6 that a scenario fails.
+// The checks 1 to 6 of a scenario.
 ghost use mathlib.Core.Path.{_≡_};
 ghost use mathlib.Core.Bool.{not};
 ghost use mathlib.Core.List.{[], _∷_};
 ghost use Rattle.toolbox_theory.specs.Lists.{among};
 ghost use Rattle.scenario_theory.specs.Checks.{_to_, beyond, _when_, _otherwise_};
-ghost use Rattle.scenario_theory.specs.Refusal.{idriss, booreAtkinson, refusalBy, refusalOf};
-use scenario_rows::NO_ROW;
-use scenario_rows::boore_atkinson_row;
-use scenario_rows::idriss_row;
+ghost use Rattle.scenario_theory.specs.Refusal.{idriss, booreAtkinson, refusalOf};
+ghost use Rattle.scenario_theory.specs.Rows.{idrissRow, booreAtkinsonRow, checkAt, checkBy, checkOf};
+use scenario_rows::boore_atkinson_place;
+use scenario_rows::idriss_place;
+pub use scenario_theory::Check;
+use scenario_theory::Place;
 pub use scenario_theory::Scenario;
 
 fn outside(low: u16, high: u16, x: u16) -> bool
@@ -23,10 +25,9 @@ fn unknown(code: u8, other: u8) -> bool
     3 < code && code != other
 }
 
-// The first of the checks 2 to 6 that fails, 0 where none does.
-fn first(two: bool, three: bool, four: bool, five: bool, six: bool) -> u8
-    ensures { λ r. ⌜ r ≡ 2 when two otherwise 3 when three otherwise 4 when four otherwise
-        5 when five otherwise 6 when six ⌝ }
+// The first of the checks 2 to 5 that fails, 0 where none does.
+fn first(two: bool, three: bool, four: bool, five: bool) -> u8
+    ensures { λ r. ⌜ r ≡ 2 when two otherwise 3 when three otherwise 4 when four otherwise 5 when five ⌝ }
 {
     if two {
         return 2;
@@ -40,45 +41,69 @@ fn first(two: bool, three: bool, four: bool, five: bool, six: bool) -> u8
     if five {
         return 5;
     }
-    if six {
-        return 6;
-    }
     0
 }
 
-fn idriss_refusal(s: Scenario) -> u8
-    ensures { λ r. ⌜ r ≡ refusalBy idriss s ⌝ }
+// What the check of the period comes to, by its place, where those before it do not fail.
+fn last(place: Place) -> Check
+    ensures { λ r. ⌜ r ≡ checkAt 0 place ⌝ }
 {
-    first(
+    match place {
+        Place::Row(row) => Check::Accepted(row),
+        Place::Between(_) => Check::Refused(6),
+        Place::Outside => Check::Refused(6),
+    }
+}
+
+fn idriss_check(s: Scenario) -> Check
+    ensures { λ r. ⌜ r ≡ checkBy idriss idrissRow s ⌝ }
+{
+    let k = first(
         outside(450, 790, s.magnitude),
         outside(0, 17_500, s.distance),
         outside(4_500, 20_000, s.velocity),
         unknown(s.mechanism, 4),
-        idriss_row(s.period) == NO_ROW,
-    )
+    );
+    if k != 0 {
+        return Check::Refused(k);
+    }
+    last(idriss_place(s.period))
 }
 
-fn boore_atkinson_refusal(s: Scenario) -> u8
-    ensures { λ r. ⌜ r ≡ refusalBy booreAtkinson s ⌝ }
+fn boore_atkinson_check(s: Scenario) -> Check
+    ensures { λ r. ⌜ r ≡ checkBy booreAtkinson booreAtkinsonRow s ⌝ }
 {
-    first(
+    let k = first(
         outside(500, 800, s.magnitude),
         outside(0, 19_999, s.distance),
         outside(1_800, 13_000, s.velocity),
         unknown(s.mechanism, 9),
-        boore_atkinson_row(s.period) == NO_ROW,
-    )
+    );
+    if k != 0 {
+        return Check::Refused(k);
+    }
+    last(boore_atkinson_place(s.period))
+}
+
+// The checks 1 to 6 of s: the row of its period, or the number of the first that it fails.
+pub fn check(s: Scenario) -> Check
+    ensures { λ r. ⌜ r ≡ checkOf s ⌝ }
+{
+    if s.model == 1 {
+        return idriss_check(s);
+    }
+    if s.model == 2 {
+        return boore_atkinson_check(s);
+    }
+    Check::Refused(1)
 }
 
 // The first of the checks 1 to 6 that s fails, 0 where it fails none.
 pub fn refusal(s: Scenario) -> u8
     ensures { λ r. ⌜ r ≡ refusalOf s ⌝ }
 {
-    if s.model == 1 {
-        return idriss_refusal(s);
+    match check(s) {
+        Check::Accepted(_) => 0,
+        Check::Refused(k) => k,
     }
-    if s.model == 2 {
-        return boore_atkinson_refusal(s);
-    }
-    1
 }

@@ -1,69 +1,146 @@
-// The row of a period in the tables of each model.
+// Where a period stands in the tables of each model.
 ghost use mathlib.Core.Path.{_≡_};
-ghost use Rattle.scenario_theory.specs.Rows.{idrissRow, booreAtkinsonRow};
+ghost use mathlib.Core.Bool.{cond, _&&_};
+ghost use Prim.Native.Nat.{_+_, _-_, _≤_};
+ghost use lib.Dec.{ltb};
+ghost use Rattle.toolbox_theory.specs.Lists.{countBelow};
+ghost use Rattle.scenario_theory.specs.declared.Place.the-variants as P;
+ghost use Rattle.scenario_theory.specs.Refusal.{idriss, booreAtkinson};
+ghost use Rattle.scenario_theory.specs.Rows.{idrissPlace, booreAtkinsonPlace};
+use scenario_theory::Place;
 
-// The row of a period that has none: the number of rows.
-pub const NO_ROW: usize = 22;
+// Idriss's tabled periods, in thousandths of a second; Boore-Atkinson has the same without 40.
+const PERIODS: [u16; 22] = [
+    10,
+    20,
+    30,
+    40,
+    50,
+    75,
+    100,
+    150,
+    200,
+    250,
+    300,
+    400,
+    500,
+    750,
+    1_000,
+    1_500,
+    2_000,
+    3_000,
+    4_000,
+    5_000,
+    7_500,
+    10_000,
+];
 
-// The row of a period in Idriss's tables.
-pub fn idriss_row(period: u16) -> usize
-    ensures { λ r. ⌜ r ≡ idrissRow period ⌝ }
+fn periods() -> [u16; 22]
+    ensures { λ r. ⌜ r ≡ idriss .periods ⌝ }
+{
+    PERIODS
+}
+
+// How many of Idriss's periods are below a period.
+fn count_below(period: u16) -> usize
+    ensures { λ n. ⌜ (n ≡ countBelow (idriss .periods) period) × (n ≤ 22) ⌝ }
+{
+    let t = periods();
+    let mut n: usize = 0;
+    let mut i: usize = 0;
+    while i < 22 {
+        if t[i] < period {
+            n += 1;
+        }
+        i += 1;
+    }
+    n
+}
+
+// The place of a period that has no row, after n of so many periods, the first of which has row `first`.
+fn after(n: usize, count: usize, first: usize) -> Place
+    requires { ⌜ (n ≤ 22) × (first ≤ 1) ⌝ }
+    ensures { λ r. ⌜ r ≡ cond (ltb 0 n && ltb n count) (P.Between (first + n - 1)) P.Outside ⌝ }
+{
+    if n == 0 {
+        return Place::Outside;
+    }
+    if n < count {
+        return Place::Between(first + n - 1);
+    }
+    Place::Outside
+}
+
+// How many of Boore-Atkinson's periods are below a period.
+fn count_below_without_40(period: u16) -> usize
+    ensures { λ n. ⌜ (n ≡ countBelow (booreAtkinson .periods) period) × (n ≤ 22) ⌝ }
+{
+    let n = count_below(period);
+    if 40 < period {
+        return n - 1;
+    }
+    n
+}
+
+// Where a period stands in Idriss's tables.
+pub fn idriss_place(period: u16) -> Place
+    ensures { λ r. ⌜ r ≡ idrissPlace period ⌝ }
 {
     match period {
-        0 => 0,
-        10 => 0,
-        20 => 1,
-        30 => 2,
-        40 => 3,
-        50 => 4,
-        75 => 5,
-        100 => 6,
-        150 => 7,
-        200 => 8,
-        250 => 9,
-        300 => 10,
-        400 => 11,
-        500 => 12,
-        750 => 13,
-        1_000 => 14,
-        1_500 => 15,
-        2_000 => 16,
-        3_000 => 17,
-        4_000 => 18,
-        5_000 => 19,
-        7_500 => 20,
-        10_000 => 21,
-        _ => NO_ROW,
+        0 => Place::Row(0),
+        10 => Place::Row(0),
+        20 => Place::Row(1),
+        30 => Place::Row(2),
+        40 => Place::Row(3),
+        50 => Place::Row(4),
+        75 => Place::Row(5),
+        100 => Place::Row(6),
+        150 => Place::Row(7),
+        200 => Place::Row(8),
+        250 => Place::Row(9),
+        300 => Place::Row(10),
+        400 => Place::Row(11),
+        500 => Place::Row(12),
+        750 => Place::Row(13),
+        1_000 => Place::Row(14),
+        1_500 => Place::Row(15),
+        2_000 => Place::Row(16),
+        3_000 => Place::Row(17),
+        4_000 => Place::Row(18),
+        5_000 => Place::Row(19),
+        7_500 => Place::Row(20),
+        10_000 => Place::Row(21),
+        _ => after(count_below(period), 22, 0),
     }
 }
 
-// The row of a period in Boore-Atkinson's tables.
-pub fn boore_atkinson_row(period: u16) -> usize
-    ensures { λ r. ⌜ r ≡ booreAtkinsonRow period ⌝ }
+// Where a period stands in Boore-Atkinson's tables.
+pub fn boore_atkinson_place(period: u16) -> Place
+    ensures { λ r. ⌜ r ≡ booreAtkinsonPlace period ⌝ }
 {
     match period {
-        0 => 0,
-        10 => 1,
-        20 => 2,
-        30 => 3,
-        50 => 4,
-        75 => 5,
-        100 => 6,
-        150 => 7,
-        200 => 8,
-        250 => 9,
-        300 => 10,
-        400 => 11,
-        500 => 12,
-        750 => 13,
-        1_000 => 14,
-        1_500 => 15,
-        2_000 => 16,
-        3_000 => 17,
-        4_000 => 18,
-        5_000 => 19,
-        7_500 => 20,
-        10_000 => 21,
-        _ => NO_ROW,
+        0 => Place::Row(0),
+        10 => Place::Row(1),
+        20 => Place::Row(2),
+        30 => Place::Row(3),
+        50 => Place::Row(4),
+        75 => Place::Row(5),
+        100 => Place::Row(6),
+        150 => Place::Row(7),
+        200 => Place::Row(8),
+        250 => Place::Row(9),
+        300 => Place::Row(10),
+        400 => Place::Row(11),
+        500 => Place::Row(12),
+        750 => Place::Row(13),
+        1_000 => Place::Row(14),
+        1_500 => Place::Row(15),
+        2_000 => Place::Row(16),
+        3_000 => Place::Row(17),
+        4_000 => Place::Row(18),
+        5_000 => Place::Row(19),
+        7_500 => Place::Row(20),
+        10_000 => Place::Row(21),
+        _ => after(count_below_without_40(period), 21, 1),
     }
 }

@@ -1,6 +1,7 @@
 -- Laws of the first number that applies.
 use mathlib.Core.Path.{_≡_, refl}
 use mathlib.Core.Bool.{Bool, true, false}
+use mathlib.Core.Logic.{_⊎_, inl, inr}
 use Prim.Native.Nat.{ℕ, zero, suc}
 use native.Mathlib.Omega.{arith}
 use Rattle.scenario_theory.specs.Checks.{_when_, _otherwise_, unlessRefused}
@@ -24,6 +25,25 @@ pub not-when : (k : ℕ) (b : Bool) → (suc k when b) ≡ 0 → b ≡ false
 not-when k true e = absurd (omega arith)
 not-when k false e = refl
 
+-- ---- a where the number is 0, else b
+
 pub is-refused : {A : Type 0} (k : ℕ) (a b : A) → (k ≡ 0 → ⊥) → b ≡ unlessRefused k a b
 is-refused zero a b h = absurd (h refl)
 is-refused (suc k) a b h = refl
+
+-- it is one of them
+pub unless-is : {A : Type 0} (k : ℕ) {a b r : A} → unlessRefused k a b ≡ r →
+    ((k ≡ 0) × (a ≡ r)) ⊎ ((k ≡ 0 → ⊥) × (b ≡ r))
+unless-is zero e = inl (refl, e)
+unless-is (suc k) e = inr (λ z. absurd (omega arith), e)
+
+-- only a has to be the same, where it counts
+pub same-unless : {A : Type 0} (k : ℕ) {a b : A} (c : A) → (k ≡ 0 → a ≡ b) → unlessRefused k a c ≡ unlessRefused k b c
+same-unless zero c e = e refl
+same-unless (suc k) c e = refl
+
+-- a function of it
+pub of-unless : {A B : Type 0} (f : A → B) (k : ℕ) (a b : A) →
+    f (unlessRefused k a b) ≡ unlessRefused k (f a) (f b)
+of-unless f zero a b = refl
+of-unless f (suc k) a b = refl

@@ -1,4 +1,4 @@
--- The checks of a program are those of a model's column, one by one; and what a scenario that is not refused is like.
+-- What a scenario that is not refused is like.
 use mathlib.Core.Path.{_≡_, refl}
 use mathlib.Core.Bool.{true≢false, Bool, true, false, not, cond, _||_}
 use mathlib.Core.List.{_∷_}
@@ -11,17 +11,9 @@ use lib.Dec.{T, eqb, ltb}
 use Rattle.toolbox_theory.specs.Lists.{among}
 use Rattle.toolbox_theory.proofs.ListLaws.{upTo, at-most}
 use Rattle.scenario_theory.specs.declared.Scenario.{Scenario}
-use Rattle.scenario_theory.specs.Checks.{Range, beyond, _when_, _otherwise_}
+use Rattle.scenario_theory.specs.Checks.{Range, beyond, _when_}
 use Rattle.scenario_theory.specs.Refusal.{Limits, idriss, booreAtkinson, refusalBy, refusalOf}
 use Rattle.scenario_theory.proofs.CheckLaws.{none-of, not-when}
-
-pub by-limits : (m : Limits) (s : Scenario) {r : ℕ} {two three four five six : Bool} →
-    r ≡ (2 when two otherwise 3 when three otherwise 4 when four otherwise 5 when five otherwise 6 when six) →
-    two ≡ beyond (m .magnitude) (s .magnitude) → three ≡ beyond (m .distance) (s .distance) →
-    four ≡ beyond (m .velocity) (s .velocity) → five ≡ not (among (m .mechanisms) (s .mechanism)) →
-    six ≡ not (among (0 ∷ m .periods) (s .period)) → r ≡ refusalBy m s
-unfolding refusalBy
-by-limits m s e two three four five six = rw (e, two, three, four, five, six)
 
 -- ---- a scenario that is not refused is within the limits of its model
 

@@ -1,4 +1,4 @@
-// A scenario, the checks 1 to 6 and the rows of periods: the type, definitions and laws. There is no code.
+// A scenario, the checks 1 to 6 and the rows of periods: types, definitions and laws. There is no code.
 
 // The fields of document 01, 'The scenario', as whole numbers.
 pub struct Scenario {
@@ -14,4 +14,17 @@ pub struct Scenario {
     pub mechanism: u8,
     // in 0.001 s; 0 is peak acceleration
     pub period: u16,
+}
+
+// Where a period stands in the tables of a model: it has row k, lies between rows k and k + 1, or neither.
+pub enum Place {
+    Row(usize),
+    Between(usize),
+    Outside,
+}
+
+// What the checks 1 to 6 come to: the row of the period, or the number of the first that fails.
+pub enum Check {
+    Accepted(usize),
+    Refused(u8),
 }

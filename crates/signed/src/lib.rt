@@ -1,9 +1,7 @@
-// The signed steps of an answer: the difference of two unsigned numbers, a pair of them, and the absolute value of one.
+// The difference of two unsigned numbers, and the absolute value of a signed one.
 ghost use mathlib.Core.Path.{_≡_};
 ghost use Prim.Native.Nat.{_+_, _^_, _<_};
 ghost use lib.IntN.{natAbs, subℕ};
-ghost use Rattle.signed_theory.specs.Evaluation.{betweenOf};
-pub use signed_theory::Ends;
 
 // a − b, where its absolute value is below 2^63.
 pub fn difference(a: u64, b: u64) -> i64
@@ -14,17 +12,6 @@ pub fn difference(a: u64, b: u64) -> i64
         return -((b - a) as i64);
     }
     (a - b) as i64
-}
-
-// From a − b to c − d.
-pub fn between(a: u64, b: u64, c: u64, d: u64) -> Ends
-    requires { ⌜ (a < 2 ^ 63) × (b < 2 ^ 63) × (c < 2 ^ 63) × (d < 2 ^ 63) ⌝ }
-    ensures { λ r. ⌜ r ≡ betweenOf a b c d ⌝ }
-{
-    Ends {
-        low: difference(a, b),
-        high: difference(c, d),
-    }
 }
 
 // The absolute value of z.

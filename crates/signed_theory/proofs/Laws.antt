@@ -1,25 +1,16 @@
 -- What ties a signed number of the code to ℕ: a difference of two natural numbers, cast and stored.
 use mathlib.Core.Path.{_≡_, refl, ap, _∙_}
 use mathlib.Core.Bool.{Bool, true, false, not}
-use mathlib.Core.Logic.{_⊎_, inl, inr}
 use Prim.Native.Nat.{ℕ, zero, suc, _+_, _-_, _^_, _<_, _≤_}
 use native.Mathlib.Nat.{lt-irrefl, zero-add}
 use native.Mathlib.Omega.{arith}
 use borrow.Author.Tests.{lt-ltb, le-ltb, ltb-true}
 use lib.Dec.{T, ltb, ltb→lt, nltb→le}
 use lib.IntN.{ℤ, pos, negsuc, negℤ, negℤ-negℤ, natAbs, _+ℤ_, _-ℤ_, subℕ}
-use lib.Signed.{ltZ, nonNeg}
+use lib.Signed.{ltZ, leZ, nonNeg}
 use mir.Syntax.{w64}
 use mir.Val.{toZ, ofZ, SFits}
 use mir.ValLaws.{toZ-pos, toZ-ofZ}
-use Rattle.signed_theory.specs.declared.Ends.{Ends}
-use Rattle.signed_theory.specs.Evaluation.{SmallerThan, betweenOf}
-
--- −2^53 is 2^53 in absolute value, and not below: no such end is smaller than 2^53
-pub minus-2-to-53 : (e : Ends) → (e .low ≡ negℤ (pos (2 ^ 53))) ⊎ (e .high ≡ negℤ (pos (2 ^ 53))) →
-    SmallerThan (2 ^ 53) e → ⊥
-minus-2-to-53 e (inl is) h = lt-irrefl (2 ^ 53) (rw is at (h .low))
-minus-2-to-53 e (inr is) h = lt-irrefl (2 ^ 53) (rw is at (h .high))
 
 -- a u64 below 2 ^ 63, cast to i64
 pub cast : (n : ℕ) → n < 2 ^ 63 → toZ w64 n ≡ pos n
@@ -53,15 +44,6 @@ difference-small a b n ha hb = go (ltb a b) (ltb→lt a b) (nltb→le a b)
     go true p q = rw (less a b (p tt)) (omega (arith, p tt))
     go false p q = rw (more a b (q tt)) (omega (arith, q tt))
 
-pub between-small : {a b c d : ℕ} (n : ℕ) → a < n → b < n → c < n → d < n → SmallerThan n (betweenOf a b c d)
-unfolding betweenOf
-between-small {a} {b} {c} {d} n ha hb hc hd =
-    record {
-      low = difference-small a b n (omega arith) (omega arith);
-      high = difference-small c d n (omega arith)
-          (omega arith);
-    }
-
 -- a difference whose absolute value is below 2 ^ 63, stored and read back
 pub stored : {z : ℤ} (a b : ℕ) → a < b + 2 ^ 63 → b < a + 2 ^ 63 → z ≡ subℕ a b → toZ w64 (ofZ w64 z) ≡ subℕ a b
 stored a b ha hb e = rw e (back (subℕ a b) (difference-small a b (2 ^ 63) ha hb))
@@ -94,3 +76,8 @@ below-zero (negsuc n) e = (n, refl)
 pub not-below : (z : ℤ) → ltZ z (pos 0) ≡ false → T (nonNeg z)
 not-below (pos n) e = tt
 not-below (negsuc n) e = let y : _≡_ {A = ℕ} 0 1 = cc in absurd (omega arith)
+
+-- two numbers that a test compared
+pub compared : {a b : ℤ} {c : Bool} → SFits w64 a → SFits w64 b →
+    leZ (toZ w64 (ofZ w64 a)) (toZ w64 (ofZ w64 b)) ≡ c → leZ a b ≡ c
+compared {a} {b} fa fb t = rw (toZ-ofZ w64 a fa, toZ-ofZ w64 b fb) at t

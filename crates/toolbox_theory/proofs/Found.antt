@@ -9,11 +9,8 @@ use lib.ListN.{getD, List·getD-map}
 abbrev pub Found : {A : Type 0} → A → List A → ℕ → A → ℕ → Type 0
 Found past t k row i = k < i → row ≡ getD t k past
 
-zero-only : {k : ℕ} → k < 1 → k ≡ 0
-zero-only h = omega arith
-
 pub first : {A : Type 0} (past : A) (t : List A) (k : ℕ) → Found past t k (getD t 0 past) 1
-first past t k h = rw (zero-only h) refl
+first past t k h = let e : k ≡ 0 = omega arith in rw e
 
 pub met : {A : Type 0} (past : A) (t : List A) (k i : ℕ) {row : A} → i ≡ k → row ≡ getD t i past →
     Found past t k row (i + 1)

@@ -1,12 +1,15 @@
 -- Laws of a search through a list, for any list.
 use mathlib.Core.Path.{_≡_, refl, sym, ap, _∙_}
-use mathlib.Core.Bool.{false≢true, Bool, true, false, not, _&&_, _||_, cond}
+use mathlib.Core.Bool.{false≢true, Bool, true, false, _&&_, _||_, cond}
+use mathlib.Core.Logic.{_⊎_, inl, inr}
 use mathlib.Core.List.{List, [], _∷_, map}
-use Prim.Native.Nat.{ℕ, suc, _≤_}
-use borrow.Author.Tests.{ne-eqb, eqb-true}
-use lib.Dec.{T, eqb, leb, leb→le, eqb·suc-suc, eqb·zero-suc}
-use lib.ListN.{length, getD}
-use Rattle.toolbox_theory.specs.Lists.{among, placeIn, lookup}
+use Prim.Native.Nat.{ℕ, zero, suc, _+_, _≤_, _<_}
+use native.Mathlib.Omega.{arith}
+use borrow.Author.Tests.{ne-eqb, eqb-true, lt-ltb, le-ltb}
+use lib.Dec.{T, eqb, ltb, leb, leb→le, eqb→eq}
+use Rattle.toolbox_theory.proofs.Tests.{and-left, and-right, by-test}
+use lib.ListN.{length, getD, take}
+use Rattle.toolbox_theory.specs.Lists.{among, placeIn, countBelow, lookup}
 
 -- x is none of the numbers of a list, as a match has it, after what it has before
 abbrev pub Missed : Type 0 → List ℕ → ℕ → Type 0
@@ -17,21 +20,14 @@ pub earlier : (before : Type 0) (l : List ℕ) (x : ℕ) → Missed before l x �
 earlier before [] x m = m
 earlier before (y ∷ ys) x m = earlier (before × (x ≡ y → ⊥)) ys x m .0
 
-pub missed : (before : Type 0) (l : List ℕ) (x : ℕ) → Missed before l x → length l ≡ placeIn l x
+pub missed : (before : Type 0) (l : List ℕ) (x : ℕ) → Missed before l x → among l x ≡ false
 missed before [] x m = refl
 missed before (y ∷ ys) x m =
-    let e : eqb x y ≡ false = ne-eqb x y (earlier (before × (x ≡ y → ⊥)) ys x m .1) in
-    rw e (ap suc (missed (before × (x ≡ y → ⊥)) ys x m))
+    rw (ne-eqb x y (earlier (before × (x ≡ y → ⊥)) ys x m .1)) (missed (before × (x ≡ y → ⊥)) ys x m)
 
--- the place past the end is that of what is not in the list
-pub past-the-end : (l : List ℕ) (x : ℕ) → eqb (placeIn l x) (length l) ≡ not (among l x)
-past-the-end [] x = refl
-past-the-end (y ∷ ys) x = go (eqb x y) (past-the-end ys x)
-  where
-    go : (b : Bool) → eqb (placeIn ys x) (length ys) ≡ not (among ys x) →
-        eqb (cond b 0 (suc (placeIn ys x))) (suc (length ys)) ≡ not (b || among ys x)
-    go true e = eqb·zero-suc (length ys)
-    go false e = eqb·suc-suc (placeIn ys x) (length ys) ∙ e
+or-cases : (b c : Bool) → (b || c) ≡ true → (b ≡ true) ⊎ (c ≡ true)
+or-cases true c e = inl refl
+or-cases false c e = inr e
 
 -- what a test shows of every number of a list, it shows of one that is among them
 abbrev pub all : (ℕ → Bool) → List ℕ → Bool
@@ -40,13 +36,10 @@ all test (y ∷ ys) = test y && all test ys
 
 pub all-at : (test : ℕ → Bool) (l : List ℕ) (x : ℕ) → T (all test l) → among l x ≡ true → T (test x)
 all-at test [] x t e = absurd (false≢true e)
-all-at test (y ∷ ys) x t e = go (test y) (eqb x y) refl refl t e (all-at test ys x)
-  where
-    go : (a b : Bool) → test y ≡ a → eqb x y ≡ b → T (a && all test ys) → (b || among ys x) ≡ true →
-        (T (all test ys) → among ys x ≡ true → T (test x)) → T (test x)
-    go false b p q t e ih = absurd t
-    go true true p q t e ih = rw (eqb-true x y q, p) tt
-    go true false p q t e ih = ih t e
+all-at test (y ∷ ys) x t e = elim (or-cases (eqb x y) (among ys x) e) [
+  | inl p ↦ rw (eqb-true x y p) (and-left (test y) (all test ys) t)
+  | inr p ↦ all-at test ys x (and-right (test y) (all test ys) t) p
+]
 
 -- so a number of a list is at most the greatest
 abbrev pub upTo : ℕ → List ℕ → Bool
@@ -55,24 +48,42 @@ upTo k l = all (λ y. leb y k) l
 pub at-most : (k : ℕ) (l : List ℕ) (x : ℕ) → T (upTo k l) → among l x ≡ true → x ≤ k
 at-most k l x t e = leb→le x k (all-at (λ y. leb y k) l x t e)
 
+-- how many are below x, counted one by one
+count-suc : (l : List ℕ) (x i : ℕ) → i < length l →
+    countBelow (take (suc i) l) x ≡ countBelow (take i l) x + cond (ltb (getD l i 0) x) 1 0
+unfolding countBelow
+count-suc [] x i h = absurd (omega arith)
+count-suc (y ∷ ys) x zero h = omega arith
+count-suc (y ∷ ys) x (suc i) h = omega (arith, count-suc ys x i (omega arith))
+
+-- n of the first i are below x: then so many of the first i + 1
+module _ (l : List ℕ) (x i : ℕ) (h : i < length l) {n : ℕ} (e : n ≡ countBelow (take i l) x) where
+  next : countBelow (take (i + 1) l) x ≡ n + cond (ltb (getD l i 0) x) 1 0
+  next = let f : i + 1 ≡ suc i = omega arith in rw (f, e) (count-suc l x i h)
+
+  pub count-one : {r : ℕ} → getD l i 0 < x → r ≡ n + 1 → r ≡ countBelow (take (i + 1) l) x
+  count-one p q = q ∙ sym (rw (lt-ltb (getD l i 0) x p) at next)
+
+  pub count-none : {r : ℕ} → x ≤ getD l i 0 → r ≡ n → r ≡ countBelow (take (i + 1) l) x
+  count-none p q = q ∙ omega (arith, rw (le-ltb (getD l i 0) x p) at next)
+
+pub count-all : (l : List ℕ) (x : ℕ) → countBelow (take (length l) l) x ≡ countBelow l x
+unfolding countBelow
+count-all [] x = refl
+count-all (y ∷ ys) x = ap (λ n. cond (ltb y x) 1 0 + n) (count-all ys x)
+
 -- the row that has a key is the row in the key's place
 module _ {A : Type 0} (key : A → ℕ) (none : A) where
   pub lookup-at : (rows : List A) (x : ℕ) → lookup key none rows x ≡ getD rows (placeIn (map key rows) x) none
   lookup-at [] x = refl
-  lookup-at (r ∷ rows) x = go (eqb x (key r)) (lookup-at rows x)
-    where
-      go : (b : Bool) → lookup key none rows x ≡ getD rows (placeIn (map key rows) x) none →
-          cond b r (lookup key none rows x) ≡ getD (r ∷ rows) (cond b 0 (suc (placeIn (map key rows) x))) none
-      go true e = refl
-      go false e = e
+  lookup-at (r ∷ rows) x =
+      elim (eqb x (key r)) as (λ b. cond b r (lookup key none rows x) ≡
+      getD (r ∷ rows) (cond b 0 (suc (placeIn (map key rows) x))) none) [ true ↦ refl | false ↦ lookup-at rows x ]
 
   -- and has that key, where the key is in the table
   pub lookup-key : (rows : List A) (x : ℕ) → among (map key rows) x ≡ true → key (lookup key none rows x) ≡ x
   lookup-key [] x e = absurd (false≢true e)
-  lookup-key (r ∷ rows) x e = go (eqb x (key r)) refl e (lookup-key rows x)
-    where
-      go : (b : Bool) → eqb x (key r) ≡ b → (b || among (map key rows) x) ≡ true →
-          (among (map key rows) x ≡ true → key (lookup key none rows x) ≡ x) →
-          key (cond b r (lookup key none rows x)) ≡ x
-      go true q e ih = sym (eqb-true x (key r) q)
-      go false q e ih = ih e
+  lookup-key (r ∷ rows) x e = elim (or-cases (eqb x (key r)) (among (map key rows) x) e) [
+    | inl p ↦ rw p (sym (eqb-true x (key r) p))
+    | inr p ↦ by-test (eqb x (key r)) (λ s. key s ≡ x) (λ t. sym (eqb→eq x (key r) t)) (λ t. lookup-key rows x p)
+  ]

@@ -1,6 +1,6 @@
 -- Tests that antt computes over a whole table or range, and what they show of each entry.
 use mathlib.Core.Path.{_≡_}
-use mathlib.Core.Bool.{Bool, true, false, _&&_}
+use mathlib.Core.Bool.{Bool, true, false, not, cond, _&&_}
 use mathlib.Core.List.{List, [], _∷_}
 use Prim.Native.Nat.{ℕ, zero, suc, _+_, _<_, _≤_}
 use native.Mathlib.Nat.{le-of-suc-le-suc, not-suc-le-zero, add-zero, add-suc, suc-add}
@@ -19,6 +19,15 @@ and-right false y t = absurd t
 
 pub both : (x y : Bool) → T (x && y) → T x × T y
 both x y t = (and-left x y t, and-right x y t)
+
+-- what each half shows, both show
+pub each : {A B : Type 0} (x y : Bool) → (T x → A) → (T y → B) → T (x && y) → A × B
+each x y f g t = (f (and-left x y t), g (and-right x y t))
+
+-- what a test picks has a property, if what it picks in either case has it
+pub by-test : {A : Type 0} {x y : A} (b : Bool) (K : A → Type 0) → (T b → K x) → (T (not b) → K y) → K (cond b x y)
+by-test true K f g = f tt
+by-test false K f g = g tt
 
 -- ---- a table, entry by entry
 
@@ -63,9 +72,7 @@ AllLe (p ∷ ps) = (p .0 ≤ p .1) × AllLe ps
 
 pub all-le : (ps : List (ℕ × ℕ)) → T (allLe ps) → AllLe ps
 all-le [] t = tt
-all-le (p ∷ ps) t =
-    let first = and-left (leb (p .0) (p .1)) (allLe ps) t in
-    (leb→le (p .0) (p .1) first, all-le ps (and-right (leb (p .0) (p .1)) (allLe ps) t))
+all-le (p ∷ ps) t = each (leb (p .0) (p .1)) (allLe ps) (leb→le (p .0) (p .1)) (all-le ps) t
 
 -- numbers that are equal, pair by pair, are in order both ways
 abbrev pub equal : List (ℕ × ℕ) → List (ℕ × ℕ)

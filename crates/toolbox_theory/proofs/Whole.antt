@@ -1,12 +1,14 @@
 -- Signed whole numbers as differences of two natural numbers, so that `omega` decides what is linear in them.
 use mathlib.Core.Path.{_≡_, refl, ap}
-use mathlib.Core.Bool.{Bool, true, false, not, cond}
-use Prim.Native.Nat.{ℕ, zero, suc, _+_, _*_, _-_, _<_, _≤_}
+use mathlib.Core.Logic.{_⊎_, inl, inr}
+use mathlib.Core.Bool.{not}
+use Prim.Native.Nat.{ℕ, zero, suc, _+_, _*_, _<_, _≤_}
 use native.Mathlib.Omega.{arith}
 use lib.Dec.{T, ltb, leb→le, le→leb, ltb→lt, nltb→le, nleb→lt}
 use lib.IntN.{ℤ, pos, negsuc, negℤ, subℕ, _+ℤ_, _*ℤ_}
 use lib.Signed.{leZ, _≤ℤ_}
 use Rattle.toolbox_theory.specs.Whole.{up, down}
+use Rattle.toolbox_theory.proofs.Tests.{by-test}
 
 pub le-in : (a b : ℤ) → up a + down b ≤ up b + down a → T (leZ a b)
 unfolding up down
@@ -29,26 +31,22 @@ gt-out (pos a) (negsuc b) t = omega arith
 gt-out (negsuc a) (pos b) t = absurd t
 gt-out (negsuc a) (negsuc b) t = omega (arith, nleb→lt b a t)
 
-pub neg-up : (a : ℤ) → up (negℤ a) ≡ down a
+-- one of the two is 0
+pub one-sided : (a : ℤ) → (down a ≤ 0) ⊎ (up a ≤ 0)
 unfolding up down
-neg-up (pos zero) = refl
-neg-up (pos (suc n)) = refl
-neg-up (negsuc n) = refl
+one-sided (pos n) = inl (omega arith)
+one-sided (negsuc n) = inr (omega arith)
 
-pub neg-down : (a : ℤ) → down (negℤ a) ≡ up a
+pub neg-is : (a : ℤ) → (up (negℤ a) ≡ down a) × (down (negℤ a) ≡ up a)
 unfolding up down
-neg-down (pos zero) = refl
-neg-down (pos (suc n)) = refl
-neg-down (negsuc n) = refl
+neg-is (pos zero) = (refl, refl)
+neg-is (pos (suc n)) = (refl, refl)
+neg-is (negsuc n) = (refl, refl)
 
 pub sub-is : (a b : ℕ) → up (subℕ a b) + b ≡ down (subℕ a b) + a
 unfolding up down
-sub-is a b = go (ltb a b) (ltb→lt a b) (nltb→le a b)
-  where
-    go : (c : Bool) → (T c → a < b) → (T (not c) → b ≤ a) →
-        up (cond c (negsuc (b - suc a)) (pos (a - b))) + b ≡ down (cond c (negsuc (b - suc a)) (pos (a - b))) + a
-    go true f g = omega (arith, f tt)
-    go false f g = omega (arith, g tt)
+sub-is a b =
+    by-test (ltb a b) (λ z. up z + b ≡ down z + a) (λ t. omega (arith, ltb→lt)) (λ t. omega (arith, nltb→le))
 
 pub add-is : (a b : ℤ) → up (a +ℤ b) + (down a + down b) ≡ down (a +ℤ b) + (up a + up b)
 unfolding up down
@@ -60,8 +58,8 @@ add-is (negsuc a) (negsuc b) = omega arith
 pub mul-is : (a b : ℤ) → up (a *ℤ b) + (up a * down b + down a * up b) ≡ down (a *ℤ b) + (up a * up b + down a * down b)
 unfolding up down
 mul-is (pos a) (pos b) = omega arith
-mul-is (pos a) (negsuc b) = omega (arith, neg-up (pos (a * suc b)), neg-down (pos (a * suc b)))
-mul-is (negsuc a) (pos b) = omega (arith, neg-up (pos (suc a * b)), neg-down (pos (suc a * b)))
+mul-is (pos a) (negsuc b) = omega (arith, neg-is (pos (a * suc b)))
+mul-is (negsuc a) (pos b) = omega (arith, neg-is (pos (suc a * b)))
 mul-is (negsuc a) (negsuc b) = omega arith
 
 -- the same of the order's record
@@ -83,7 +81,7 @@ sub-zero a = whole-ext (subℕ a 0) (pos a) (omega (arith, sub-is a 0))
 
 pub zero-sub : (n : ℕ) → subℕ 0 n ≡ negℤ (pos n)
 unfolding up down
-zero-sub n = whole-ext (subℕ 0 n) (negℤ (pos n)) (omega (arith, sub-is 0 n, neg-up (pos n), neg-down (pos n)))
+zero-sub n = whole-ext (subℕ 0 n) (negℤ (pos n)) (omega (arith, sub-is 0 n, neg-is (pos n)))
 
 -- a − b is at most w above c − d
 pub narrower : (a b c d w : ℕ) → a + d ≤ c + b + w → subℕ a b ≤ℤ (subℕ c d +ℤ pos w)

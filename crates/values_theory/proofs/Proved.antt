@@ -7,12 +7,11 @@ use mathlib.Core.Option.{Option, none, some}
 use Prim.Native.Nat.{ℕ, _^_, _≤_}
 use lib.IntN.{ℤ, pos, _+ℤ_}
 use lib.Dec.{T, eqb, leb, eqb→eq, leb→le}
-use Rattle.toolbox_theory.proofs.Tests.{both, every, every-at}
+use Rattle.toolbox_theory.proofs.Tests.{and-left, and-right, every, every-at}
 use Rattle.exact_theory.specs.Fraction.{Fraction, _over_, leQ, zeroQ, negQ, _+q_, _*q_, _-q_}
 use Rattle.exact_theory.specs.Logarithm.{harmonic, lowerSum, upperSum, lnPair}
 use Rattle.exact_theory.specs.Root.{greatest, wholeRoot, rootValues, rootPair}
 use Rattle.exact_theory.specs.Formula.{Formula, eval, Defined}
-use Rattle.exact_theory.proofs.AlgebraLaws.{≈q-trans}
 use Rattle.exact_theory.proofs.DefinedTest.{sound, defined}
 use Rattle.scenario_theory.specs.Refusal.{refusalBy, refusalOf}
 use Rattle.record_theory.specs.Layout.{sizeOf, numbersOf, absentWritten}
@@ -25,7 +24,8 @@ use Rattle.boore_atkinson_theory.specs.SiteTerm.{bnl}
 use Rattle.boore_atkinson_theory.specs.SiteTerm as site
 use Rattle.values_theory.specs.Table.{Check, pairAt, cutAt, atEvery, fraction, reads, HasEnds, CutTo, Holds}
 use Rattle.values_theory.specs.Table.{AllHold, values}
-use Rattle.values_theory.proofs.Constant.{same, same-is, merged, zeroOver, positive, constant, Found, found}
+use Rattle.values_theory.proofs.Constant.{same, same-is, is-same, when, Constant, merged, zeroOver, positive}
+use Rattle.values_theory.proofs.Constant.{lnConstant, constant}
 
 -- ---- the test of a row
 
@@ -36,9 +36,9 @@ sameList (x ∷ xs) [] = false
 sameList (x ∷ xs) (y ∷ ys) = eqb x y && sameList xs ys
 
 -- a number is found, and it is x
-unfoldable pub matches : Option Fraction → Fraction → Bool
+unfoldable pub matches : {e : Formula} → Option (Constant e) → Fraction → Bool
 matches none x = false
-matches (some y) x = same y x
+matches (some c) x = same (c .number) x
 
 -- x in 10^-60, rounded down, is z
 unfoldable pub cutTo : Fraction → ℤ → Bool
@@ -58,54 +58,33 @@ unfolding sameList
 same-list [] [] t = refl
 same-list [] (y ∷ ys) t = absurd t
 same-list (x ∷ xs) [] t = absurd t
-same-list (x ∷ xs) (y ∷ ys) t =
-    let u = both (eqb x y) (sameList xs ys) t in
-    rw (eqb→eq x y (u .0), same-list xs ys (u .1))
-
-has-ends : (n : ℕ) (e : Formula) (x y : Fraction) → T (same (eval n e .low) x && same (eval n e .high) y) →
-    HasEnds (eval n e) x y
-has-ends n e x y t =
-    let u = both (same (eval n e .low) x) (same (eval n e .high) y) t in
-    record { low = same-is (u .0); high = same-is (u .1) }
+same-list (x ∷ xs) (y ∷ ys) t = search (and-left, and-right, eqb→eq, same-list xs ys)
 
 is-cut : (x : Fraction) (z : ℤ) → T (cutTo x z) → CutTo x z
 unfolding cutTo
-is-cut x z t =
-    let u = both (leQ (z over (10 ^ 60)) x) (not (leQ ((z +ℤ pos 1) over (10 ^ 60)) x)) t in
-    record { from = record { le = u .0 }; below = record { lt = u .1 } }
+is-cut x z t = search (and-left, and-right)
 
-at-every : (e : Formula) (x : Fraction) (a : Option Fraction) → Found e a → T (matches a x) →
+at-every : {e : Formula} (x : Fraction) (c : Option (Constant e)) → T (matches c x) →
     (n : ℕ) → 1 ≤ n → Defined n e × HasEnds (eval n e) x x
 unfolding matches
-at-every e x none f t n h = absurd t
-at-every e x (some y) f t n h =
-    let p = f n h in
-    (p .0, record { low = ≈q-trans (p .1 .low) (same-is t); high = ≈q-trans (p .1 .high) (same-is t) })
+at-every x none t n h = absurd t
+at-every x (some c) t n h = (c .at n h .0, is-same (c .at n h .1) t)
 
 pub holds : (c : Check) → T (passes c) → Holds c
 unfolding passes Holds Defined
-holds (pairAt n e x y) t =
-    let u = both (leb 1 n && sound (eval n) e) (same (eval n e .low) x && same (eval n e .high) y) t in
-    let v = both (leb 1 n) (sound (eval n) e) (u .0) in
-    (leb→le 1 n (v .0), defined n e (v .1), has-ends n e x y (u .1))
-holds (cutAt n e x y) t =
-    let u = both (leb 1 n && sound (eval n) e) (cutTo (eval n e .low) x && cutTo (eval n e .high) y) t in
-    let v = both (leb 1 n) (sound (eval n) e) (u .0) in
-    let w = both (cutTo (eval n e .low) x) (cutTo (eval n e .high) y) (u .1) in
-    (leb→le 1 n (v .0), defined n e (v .1), is-cut _ x (w .0), is-cut _ y (w .1))
-holds (atEvery e x) t = at-every e x (constant e) (found e) t
+holds (pairAt n e x y) t = search (and-left, and-right, leb→le, defined, same-is)
+holds (cutAt n e x y) t = search (and-left, and-right, leb→le, defined, is-cut)
+holds (atEvery e x) t = at-every x (constant e) t
 holds (fraction x y) t = same-is t
-holds (reads s xs) t =
-    let u = both (eqb (readingNumber (readOf s)) 0) (sameList (readingValues (readOf s)) xs) t in
-    (eqb→eq (readingNumber (readOf s)) 0 (u .0), same-list (readingValues (readOf s)) xs (u .1))
+holds (reads s xs) t = search (and-left, and-right, eqb→eq, same-list)
 
 -- ---- all of them
 
 all-pass : T (every (λ k c. passes c) 0 values)
-unfolding passes matches constant merged zeroOver positive rowFor secondRowFor takesTable3 bnl alphaPart betaFactor
-    _-q_ _*q_ sound same sameList eval lnPair lowerSum upperSum harmonic rootPair rootValues wholeRoot greatest leQ
-    zeroQ negQ _+q_ _over_ readOf readRefusal mapRefusal scenarioIn lengthBy numbersOf sizeOf absentWritten refusalOf
-    refusalBy
+unfolding passes matches constant lnConstant when merged zeroOver positive rowFor secondRowFor takesTable3 bnl
+    alphaPart betaFactor _-q_ _*q_ sound same sameList eval lnPair lowerSum upperSum harmonic rootPair rootValues
+    wholeRoot greatest leQ zeroQ negQ _+q_ _over_ readOf readRefusal mapRefusal scenarioIn lengthBy numbersOf sizeOf
+    absentWritten refusalOf refusalBy
 all-pass = tt
 
 pub all-hold : AllHold values

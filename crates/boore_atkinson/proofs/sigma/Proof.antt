@@ -1,20 +1,18 @@
 -- `sigma` meets its contract.
-use mathlib.Core.Path.{_∙_}
 use borrow.Author.Needs.{needs}
-use Rattle.boore_atkinson_theory.specs.Rows.{totalAt}
-use Rattle.boore_atkinson_theory.proofs.Sums.{sigma-is}
+use Rattle.interval_theory.specs.Signed.{endsOf}
+use Rattle.boore_atkinson_theory.specs.Evaluation.{sigmaPairOf, sigmaOf}
 use Rattle.boore_atkinson_theory.proofs.Laws.{sigmaOf-promise}
 use Rattle.boore_atkinson.proofs.sigma.Statement.{statement}
 use Rattle.boore_atkinson.proofs.sigma.Tie as tie
 
 returns : tie.Need-returns
+unfolding sigmaOf sigmaPairOf endsOf
 returns c =
-    let k = c .before .before .before in
-    let a = k .args in
-    let e =
-    c .between .ensures ∙ sigma-is (totalAt (a .k)) (a .mechanism) (c .before .before .total-at .ensures)
-    (c .before .total .ensures) in
-    (e, rw e (sigmaOf-promise (a .k) (a .mechanism) (k .pre)))
+    let at-total = c .before .before in
+    let a = at-total .before .args in
+    rw (c .between .ensures, c .before .total .ensures, at-total .total-at .ensures)
+    (search, sigmaOf-promise (a .k) (a .mechanism) (at-total .before .pre))
 
 pub sigma-spec : {M : Type 1} → statement M
 sigma-spec =

@@ -1,33 +1,27 @@
 -- `magnitude_term` meets its contract.
+use mathlib.Core.Path.{refl}
 use native.Mathlib.Omega.{arith}
 use borrow.Author.Needs.{needs}
-use Rattle.boore_atkinson_theory.proofs.Sums.{under-is, over-is}
+use borrow.Author.Tests.{le-leb, lt-leb}
+use Rattle.boore_atkinson_theory.specs.Evaluation.{magnitudeOf}
 use Rattle.boore_atkinson_rock.proofs.magnitude_term.Statement.{statement}
 use Rattle.boore_atkinson_rock.proofs.magnitude_term.Tie as tie
 
 returns : tie.Need-returns
+unfolding magnitudeOf
 returns c =
     let at-if1 = c .before .before .before in
     let at-level = at-if1 .before .before in
-    let start = at-level .before in
-    let a = start .args in
-    let p = start .pre in
-    let e = at-level .level in (
-      under-is (a .r) (a .m) (a .mechanism) (e .ensures .0) (at-if1 .if1 .taken),
-      record { gain = omega arith; loss = omega arith },
-    )
+    let p = at-level .before .pre in
+    (rw (le-leb _ _ (at-if1 .if1 .taken), at-level .level .ensures .0) refl, omega arith)
 
 returns-2 : tie.Need-returns-2
+unfolding magnitudeOf
 returns-2 c =
     let at-if1 = c .before .before in
     let at-level = at-if1 .before .before in
-    let start = at-level .before in
-    let a = start .args in
-    let p = start .pre in
-    let e = at-level .level in (
-      over-is (a .r) (a .m) (a .mechanism) (e .ensures .0) (at-if1 .if1 .left),
-      record { gain = omega arith; loss = omega arith },
-    )
+    let p = at-level .before .pre in
+    (rw (lt-leb _ _ (at-if1 .if1 .left), at-level .level .ensures .0) refl, omega arith)
 
 pub magnitude-term-spec : {M : Type 1} → statement M
 magnitude-term-spec =

@@ -1,42 +1,35 @@
 -- `linear` meets its contract.
-use mathlib.Core.Path.{_∙_, ap}
 use native.Mathlib.Omega.{arith}
 use borrow.Author.Needs.{needs}
-use Rattle.outward_theory.specs.Evaluation.{multipleOf}
-use Rattle.outward_theory.proofs.Laws.{multiple-takes}
-use Rattle.boore_atkinson_theory.proofs.SiteSizes.{vs30-sized, linear-sized}
-use Rattle.boore_atkinson_theory.proofs.Sums.{vs30-slow, vs30-fast, linear-slow, linear-fast}
+use borrow.Author.Tests.{lt-ltb, le-ltb}
+use Rattle.interval_theory.specs.Bound.{SignedSized}
+use Rattle.boore_atkinson_theory.specs.Sizes.{linearMost}
+use Rattle.boore_atkinson_theory.specs.Evaluation.{linearOf, vs30LnOf}
+use Rattle.interval_theory.proofs.Bounded.{multiple-fits}
+use Rattle.boore_atkinson_theory.proofs.SiteSizes.{vs30-ln, linear-sized}
+use Rattle.boore_atkinson_theory.proofs.Sums.{as-signed}
 use Rattle.boore_atkinson_site.proofs.linear.Statement.{statement}
 use Rattle.boore_atkinson_site.proofs.linear.Tie as tie
 
-multiple-requires : tie.Need-multiple-requires
-multiple-requires c κs =
-    let p = c .before .pre in
-    rw (p .3) (multiple-takes _ (vs30-sized (p .1) (p .2)) (omega arith))
-
-returns : tie.Need-returns
-returns c =
-    let t = c .before .before in
-    let a = t .before .before .args in
-    let p = t .before .before .pre in
-    let h = c .before .if1 .taken in
-    let term = t .multiple .ensures ∙ ap (multipleOf _) (p .3 ∙ vs30-slow (a .v) h) in
-    let e = linear-slow (a .s) (a .v) (c .exact .ensures) h term in
-    (e, rw e (linear-sized (p .0) (p .1) (p .2)))
-
-returns-2 : tie.Need-returns-2
-returns-2 c =
-    let t = c .before .before in
-    let a = t .before .before .args in
-    let p = t .before .before .pre in
-    let h = c .before .if1 .left in
-    let term = t .multiple .ensures ∙ ap (multipleOf _) (p .3 ∙ vs30-fast (a .v) h) in
-    let e = linear-fast (a .s) (a .v) (c .exact2 .ensures) h term in
-    (e, rw e (linear-sized (p .0) (p .1) (p .2)))
+sized : (c : tie.Start) → SignedSized (linearOf (c .args .s) (c .args .v)) 3 linearMost
+sized c = linear-sized (c .pre .0) (c .pre .1) (c .pre .2)
 
 pub linear-spec : {M : Type 1} → statement M
+unfolding linearOf vs30LnOf
 linear-spec =
     tie.close
     (tie.spec
-    (λ c. search needs) (λ c. search needs) multiple-requires (λ c κs. search needs) returns (λ c κs. search needs)
-    returns-2)
+    (λ c. search needs) (λ c. search needs)
+    (λ c κs. let p = c .before .pre in multiple-fits 15_000_000 (omega arith) (vs30-ln (p .3) (p .1) (p .2)) tt)
+    (λ c κs. search needs)
+    (λ c.
+    let t = c .before .before in
+    let start = t .before .before in
+    as-signed (rw (t .multiple .ensures, c .exact .ensures) (rw (start .pre .3, lt-ltb _ _ (c .before .if1 .taken))))
+    (sized start))
+    (λ c κs. search needs)
+    (λ c.
+    let t = c .before .before in
+    let start = t .before .before in
+    as-signed (rw (t .multiple .ensures, c .exact2 .ensures) (rw (start .pre .3, le-ltb _ _ (c .before .if1 .left))))
+    (sized start)))

@@ -1,63 +1,45 @@
 -- `site_at` meets its contract: the loop finds row k.
 use mathlib.Core.Logic.{⊎-elim}
+use mathlib.Core.Path.{refl, _∙_}
 use Prim.Native.Nat.{_-_}
 use native.Mathlib.Omega.{arith}
 use borrow.Author.Needs.{needs}
 use Rattle.toolbox_theory.specs.Whole.{up, down}
-use Rattle.toolbox_theory.proofs.Found.{Found, first, met, unmet, row-found}
+use Rattle.toolbox_theory.proofs.Found.{Found, first, row-found}
 use Rattle.exact_theory.specs.Fraction.{_over_}
 use Rattle.scenario_theory.specs.Rows.{rowCount}
-use Rattle.boore_atkinson_theory.specs.declared.SiteRow.{SiteRow}
 use Rattle.boore_atkinson_theory.specs.Tables.{table3, noRow}
 use Rattle.boore_atkinson_theory.specs.Rows.{rowAt, siteParts}
 use Rattle.boore_atkinson_theory.proofs.Rows.{site-limits}
 use Rattle.boore_atkinson_tables.proofs.site_at.Statement.{statement}
 use Rattle.boore_atkinson_tables.proofs.site_at.Tie as tie
 
-abbrev past : SiteRow
-past = siteParts (noRow .site)
-
 abbrev Inv-loop : tie.InvT-loop
-Inv-loop k t row₀ i₀ row i = Found past t k row i
+Inv-loop k t row₀ i₀ row i = Found (siteParts (noRow .site)) t k row i
 
 abbrev μ-loop : tie.MeasureT-loop
 μ-loop k t row₀ i₀ row i = rowCount - i
 
-holds : tie.Need-loop-holds Inv-loop μ-loop
-unfolding up down _over_
-holds c = first past (c .before .table-3 .result) (c .before .before .args .k)
-
+-- at row k it is the row read, and past it the row that was held
 again : tie.Need-loop-again Inv-loop μ-loop
 unfolding up down _over_
 again c =
-    let a = c .before .before in
-    let t = a .before .before .table-3 .result in
-    let k = a .before .before .before .args .k in
-    ⊎-elim
-    (λ w. met past t k (a .loop .i) (w .0 .taken) (w .2))
-    (λ w. unmet past t k (a .loop .i) (w .0 .left) (w .1) (a .loop .inv))
-    (c .if1 .came)
+    let inv = c .before .before .loop .inv in
+    ⊎-elim (λ w h. w .2 ∙ rw (w .0 .taken) refl) (λ w h. w .1 ∙ inv (omega arith)) (c .if1 .came)
 
 returns : tie.Need-returns Inv-loop μ-loop
 unfolding rowAt
 returns c =
     let a = c .before .before .before in
-    let k = a .before .args .k in
     let h = a .before .pre in
     let same =
-    row-found siteParts table3 (noRow .site) k _ (a .table-3 .ensures) (omega (arith, h)) (c .before .loop .inv) in
-    (same, rw same (site-limits k h .sizes))
+    row-found siteParts table3 (noRow .site) _ _ (a .table-3 .ensures) (omega arith) (c .before .loop .inv) in
+    (same, rw same (site-limits _ h .sizes))
 
 pub site-at-spec : {M : Type 1} → statement M
+unfolding up down _over_
 site-at-spec =
     tie.close
     (tie.spec
-    Inv-loop μ-loop
-    (λ c κs. tt)
-    (λ c. search needs)
-    holds
-    (λ c. search needs)
-    (λ c. search needs)
-    (λ c. search needs)
-    (λ c. omega arith)
-    again returns)
+    Inv-loop μ-loop (λ c κs. tt) (λ c. search needs) (λ c. first _ (c .before .table-3 .result) _) (λ c. search needs)
+    (λ c. search needs) (λ c. search needs) (λ c. omega arith) again returns)

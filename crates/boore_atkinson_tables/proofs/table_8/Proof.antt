@@ -5,9 +5,6 @@ use Rattle.exact_theory.specs.Fraction.{_over_}
 use Rattle.boore_atkinson_tables.proofs.table_8.Statement.{statement}
 use Rattle.boore_atkinson_tables.proofs.table_8.Tie as tie
 
-returns : tie.Need-returns
-unfolding up _over_
-returns c = refl
-
 pub table-8-spec : {M : Type 1} → statement M
-table-8-spec = tie.close (tie.spec returns)
+unfolding up _over_
+table-8-spec = tie.close (tie.spec (λ c. refl))

@@ -1,10 +1,9 @@
 -- `read_all` meets its contract: a read that is answered by 1 or more leaves less room.
-use mathlib.Core.Path.{_≡_, _∙_}
-use Prim.Native.Nat.{_+_, _-_, _≤_}
+use mathlib.Core.Path.{_≡_}
+use Prim.Native.Nat.{_-_, _≤_}
 use native.Mathlib.Omega.{arith}
 use borrow.Author.Needs.{needs}
 use borrow.Rule.Slice.PartMut.{same-len-mid}
-use lib.IntN.{natAbs}
 use lib.ListN.{length}
 use mir.Syntax.{w64}
 use mir.Val.{toZ, ofZ}
@@ -21,30 +20,19 @@ abbrev μ-loop : tie.MeasureT-loop
 
 -- how many bytes are put, into the room that is left
 counted : (c : tie.Else1 Inv-loop μ-loop) →
-    let z = c .before .before .before .read .result in
-    Count z (toZ w64 (ofZ w64 z)) 0
+    let r = c .before .before .before in
+    let l = r .before .before .before .loop in
+    Count (toZ w64 (ofZ w64 (r .read .result))) 0 (length (l .buf) - l .done)
 counted c =
     let r = c .before .before .before .read in
-    count (r .result) 0 (record { sfits = r .ok }) (c .if1 .left)
-
-within : (c : tie.Else1 Inv-loop μ-loop) →
-    let z = c .before .before .before .read .result in
-    let l = c .before .before .before .before .before .before in
-    l .loop .done + natAbs (toZ w64 (ofZ w64 z)) ≤ length (l .before .before .args .buf .now)
-within c =
-    let l = c .before .before .before .before .before .before in
-    let left = part-length (l .loop .buf) (l .loop .done) in
-    let most = rw (counted c .is) at (c .before .before .before .read .ensures) in
-    omega arith
+    count (r .result) (record { sfits = r .ok }) (c .if1 .left) (λ n e. rw part-length at (rw e at (r .ensures)))
 
 loop-again : tie.Need-loop-again Inv-loop μ-loop
 loop-again c =
     let r = c .before .before .before .before in
-    let l = r .before .before .before .loop in (
-      within (c .before),
-      same-len-mid (l .done) (length (l .buf) - l .done) (l .buf) (r .read .last .1 .0) (r .read .kept .1 .0)
-          ∙ l .inv .1,
-    )
+    let l = r .before .before .before .loop in
+    let e = same-len-mid (l .done) (length (l .buf) - l .done) (l .buf) (r .read .last .1 .0) (r .read .kept .1 .0) in
+    omega (arith, counted (c .before))
 
 pub read-all-spec : {M : Type 1} → statement M
 read-all-spec =
@@ -52,8 +40,6 @@ read-all-spec =
     (tie.spec
     Inv-loop μ-loop (λ c. search needs) (λ c. search needs) (λ c. search needs) (λ c. search needs)
     (λ c κs. search needs) (λ c. search needs) (λ c. search needs)
-    (λ c. (counted c .sign, record { fits = omega (arith, within c) }))
-    (λ c. search needs) (λ c. search needs)
-    (λ c. record { fits = omega (arith, within (c .before)) })
-    (λ c. omega (arith, within (c .before)))
-    loop-again (λ c. search needs) (λ c. search needs))
+    (λ c. (counted c .sign, omega (arith, counted c)))
+    (λ c. search needs) (λ c. search needs) (λ c. omega (arith, counted (c .before)))
+    (λ c. omega (arith, counted (c .before))) loop-again (λ c. search needs) (λ c. search needs))

@@ -1,8 +1,7 @@
 -- `write_all` meets its contract: a write that is answered by 1 or more leaves fewer bytes.
-use Prim.Native.Nat.{_+_, _-_, _≤_}
+use Prim.Native.Nat.{_-_, _≤_}
 use native.Mathlib.Omega.{arith}
 use borrow.Author.Needs.{needs}
-use lib.IntN.{natAbs}
 use lib.ListN.{length}
 use mir.Syntax.{w64}
 use mir.Val.{toZ, ofZ}
@@ -19,19 +18,11 @@ abbrev μ-loop : tie.MeasureT-loop
 
 -- how many bytes are taken, of those that are left
 counted : (c : tie.Else1 Inv-loop μ-loop) →
-    let z = c .before .write .result in
-    Count z (toZ w64 (ofZ w64 z)) 1
-counted c = count (c .before .write .result) 1 (record { sfits = c .before .write .ok }) (c .if1 .left)
-
-within : (c : tie.Else1 Inv-loop μ-loop) →
-    let z = c .before .write .result in
     let l = c .before .before .before .before in
-    l .loop .done + natAbs (toZ w64 (ofZ w64 z)) ≤ length (l .before .before .args .buf .now)
-within c =
-    let l = c .before .before .before .before in
-    let left = part-length (l .before .before .args .buf .now) (l .loop .done) in
-    let most = rw (counted c .is) at (c .before .write .ensures) in
-    omega arith
+    Count (toZ w64 (ofZ w64 (c .before .write .result))) 1 (length (l .before .before .args .buf .now) - l .loop .done)
+counted c =
+    let w = c .before .write in
+    count (w .result) (record { sfits = w .ok }) (c .if1 .left) (λ n e. rw part-length at (rw e at (w .ensures)))
 
 pub write-all-spec : {M : Type 1} → statement M
 write-all-spec =
@@ -39,7 +30,6 @@ write-all-spec =
     (tie.spec
     Inv-loop μ-loop (λ c. search needs) (λ c. search needs) (λ c. search needs) (λ c. search needs)
     (λ c κs. search needs) (λ c. search needs)
-    (λ c. (counted c .sign, record { fits = omega (arith, within c) }))
-    (λ c. record { fits = omega (arith, within c) })
-    (λ c. omega (arith, within c, counted c .enough))
-    within (λ c. search needs))
+    (λ c. (counted c .sign, omega (arith, counted c)))
+    (λ c. omega (arith, counted c)) (λ c. omega (arith, counted c)) (λ c. omega (arith, counted c))
+    (λ c. search needs))

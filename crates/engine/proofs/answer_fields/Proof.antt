@@ -1,27 +1,22 @@
 -- `answer_fields` meets its contract.
+use mathlib.Core.Path.{sym, _∙_}
 use borrow.Author.Needs.{needs}
-use Rattle.scenario_theory.specs.Refusal.{refusalOf}
+use Rattle.scenario_theory.proofs.RowLaws.{passed}
 use Rattle.engine_theory.specs.Evaluation.{answerOf}
 use Rattle.engine_theory.proofs.Laws.{answers, fields-refused, fields-enclosed}
 use Rattle.engine.proofs.answer_fields.Statement.{statement}
 use Rattle.engine.proofs.answer_fields.Tie as tie
 
-refused : tie.Need-returns
-unfolding answerOf
-refused c =
-    let k = c .before in
-    let s = k .before .args .s in
-    answers s (refusalOf s) (λ e. e) (fields-refused s (k .refusal .result) (k .refusal .ensures) (c .if1 .taken))
-
-enclosed : tie.Need-returns-2
-unfolding answerOf
-enclosed c =
-    let i = c .before .before in
-    let k = i .before in
-    let s = k .before .args .s in
-    answers s (refusalOf s) (λ e. e)
-    (fields-enclosed s (k .refusal .result) (k .refusal .ensures) (i .if1 .left) (c .by-model .ensures))
-
 pub answer-fields-spec : {M : Type 1} → statement M
+unfolding answerOf
 answer-fields-spec =
-    tie.close (tie.spec (λ c κs. search needs) refused (λ c κs. search needs) (λ c κs. search needs) enclosed)
+    tie.close
+    (tie.spec
+    (λ c κs. search needs) (λ c. search needs)
+    (λ c κs. passed _ (sym (c .before .before .before .check .ensures) ∙ c .before .row .given .1))
+    (λ c. search needs)
+    (λ c. let g = c .before .before in
+    let checked = sym (g .before .before .check .ensures) ∙ g .row .given .1 in
+    answers _ _ (λ e. e) (fields-enclosed _ checked (c .by-model .ensures)))
+    (λ c. answers _ _ (λ e. e)
+    (fields-refused _ (sym (c .before .before .before .check .ensures) ∙ c .before .k .given .1))))

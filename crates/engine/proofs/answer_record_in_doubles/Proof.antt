@@ -1,51 +1,28 @@
 -- `answer_record_in_doubles` meets its contract.
-use mathlib.Core.Path.{_∙_, ap, sym}
+use mathlib.Core.Path.{sym, subst, _∙_}
 use borrow.Author.Needs.{needs}
 use denote.Ref.{now}
-use Rattle.record_theory.specs.Outcome.{scenarioIn, readRefusal}
-use Rattle.engine_theory.specs.declared.Answer.the-variants as A
-use Rattle.engine_theory.specs.Evaluation.{recordAnswerOf}
-use Rattle.engine_theory.proofs.Laws.{sound, enclosed-in-doubles, refused-in-doubles, doubles-answers}
-use Rattle.engine_theory.proofs.RecordLaws.{read-accepted, scenario-accepted, record-enclosed, record-refused}
+use Rattle.engine_theory.specs.Evaluation.{recordAnswerOf, SmallAnswer}
+use Rattle.engine_theory.proofs.Laws.{small, enclosed-in-doubles, refused-in-doubles, doubles-answers}
+use Rattle.engine_theory.proofs.RecordLaws.{read-accepted, next-answer}
 use Rattle.engine.proofs.answer_record_in_doubles.Statement.{statement}
 use Rattle.engine.proofs.answer_record_in_doubles.Tie as tie
 
-accepted : tie.Need-by-model-requires
-accepted c κs =
-    let k = c .before .before in
-    record {
-      accepted = scenario-accepted _ _ _ (sym (k .before .before .read .ensures .0) ∙ k .s .given .1);
-      row = c .row .ensures;
-    }
-
-small : tie.Need-as-doubles-requires
-small c κs =
-    let k = c .before .before .before in
-    let accepted = scenario-accepted _ _ _ (sym (k .before .before .read .ensures .0) ∙ k .s .given .1) in
-    rw (c .by-model .ensures) (sound _ accepted .small)
-
-enclosed : tie.Need-returns
+all-small : tie.Need-as-doubles-requires
 unfolding recordAnswerOf
-enclosed c =
-    let m = c .before in
-    let g = m .before .before .before in
-    let k = g .before .before in
-    let s = now (k .before .before .args .bytes) in
-    doubles-answers (scenarioIn s) (readRefusal s) (read-accepted s)
-    (enclosed-in-doubles (c .as-doubles .ensures) (ap A.Enclosed (m .by-model .ensures)
-    ∙ record-enclosed s _ _ (sym (k .read .ensures .0) ∙ g .s .given .1)))
-
-refused : tie.Need-returns-2
-unfolding recordAnswerOf
-refused c =
-    let k = c .before .before .before in
-    let s = now (k .before .before .args .bytes) in
-    doubles-answers (scenarioIn s) (readRefusal s) (read-accepted s)
-    (refused-in-doubles (record-refused s _ (sym (k .read .ensures .0) ∙ c .before .k .given .1)))
+all-small c κs =
+    let s = now (c .before .before .before .before .before .args .bytes) in
+    let e = sym (c .before .before .before .answer-next .ensures .0) ∙ c .before .e .given .1 in
+    subst SmallAnswer (sym (next-answer s e)) (small _ _ (read-accepted s))
 
 pub answer-record-in-doubles-spec : {M : Type 1} → statement M
+unfolding recordAnswerOf
 answer-record-in-doubles-spec =
     tie.close
     (tie.spec
-    (λ c κs. search needs) (λ c. search needs) (λ c κs. search needs) accepted small (λ c. search needs) enclosed
-    refused)
+    (λ c κs. search needs) (λ c. search needs) all-small (λ c. search needs)
+    (λ c. let g = c .before .before in
+    let e = sym (g .before .before .answer-next .ensures .0) ∙ g .e .given .1 in
+    doubles-answers _ _ (read-accepted _) (enclosed-in-doubles (c .as-doubles .ensures) (next-answer _ e)))
+    (λ c. let e = sym (c .before .before .before .answer-next .ensures .0) ∙ c .before .k .given .1 in
+    doubles-answers _ _ (read-accepted _) (refused-in-doubles (next-answer _ e))))

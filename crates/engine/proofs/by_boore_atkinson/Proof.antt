@@ -10,17 +10,14 @@ use Rattle.engine.proofs.by_boore_atkinson.Tie as tie
 
 median-takes : tie.Need-median-requires
 median-takes c κs =
-    let s = c .args .s in
     let p = c .pre in
-    let w = within-boore-atkinson s (p .model) (p .accepted) in
-    median-domain s (rw (p .row) (boore-atkinson-row (s .period) (w .period))) w
+    let w = within-boore-atkinson _ (p .model) (p .accepted) in
+    median-domain _ (rw (p .row) (boore-atkinson-row _ (w .period))) w
 
 sigma-takes : tie.Need-sigma-requires
 sigma-takes c κs =
-    let s = c .before .args .s in
     let p = c .before .pre in
-    let w = within-boore-atkinson s (p .model) (p .accepted) in
-    rw (p .row) (boore-atkinson-row (s .period) (w .period))
+    rw (p .row) (boore-atkinson-row _ (within-boore-atkinson _ (p .model) (p .accepted) .period))
 
 returns : tie.Need-returns
 unfolding enclosureOf

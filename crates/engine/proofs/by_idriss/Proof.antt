@@ -11,15 +11,14 @@ use Rattle.engine.proofs.by_idriss.Tie as tie
 
 median-takes : tie.Need-median-requires
 median-takes c κs =
-    let s = c .before .args .s in
     let p = c .before .pre in
-    let w = within-idriss s (p .model) (p .accepted) in
-    median-domain s (rw (p .row) (idriss-row (s .period) (w .period))) w
+    let w = within-idriss _ (p .model) (p .accepted) in
+    median-domain _ (rw (p .row) (idriss-row _ (w .period))) w
 
 sigma-takes : tie.Need-sigma-requires
 sigma-takes c κs =
-    let k = c .before .before in
-    sigma-domain (k .args .s) (within-idriss (k .args .s) (k .pre .model) (k .pre .accepted))
+    let p = c .before .before .pre in
+    (sigma-domain _ (within-idriss _ (p .model) (p .accepted)), p .row)
 
 returns : tie.Need-returns
 unfolding enclosureOf
@@ -27,15 +26,7 @@ returns c =
     let m = c .before in
     let t = m .before in
     let p = t .before .pre in
-    let s = t .before .args .s in
-    rw (
-      p .model,
-      c .sigma .ensures .0,
-      m .median .ensures .0,
-      p .row,
-      t .takes-table-3 .ensures,
-      row-at (s .magnitude) (s .period),
-    ) refl
+    rw (p .model, c .sigma .ensures .0, m .median .ensures .0, p .row, t .takes-table-3 .ensures, row-at) refl
 
 pub by-idriss-spec : {M : Type 1} → statement M
 by-idriss-spec = tie.close (tie.spec (λ c κs. search needs) median-takes sigma-takes returns)

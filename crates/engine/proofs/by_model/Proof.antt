@@ -1,6 +1,6 @@
 -- `by_model` meets its contract.
 use mathlib.Core.Path.{sym, _∙_}
-use mathlib.Core.Logic.{inl, inr}
+use mathlib.Core.Logic.{⊎-elim}
 use native.Mathlib.Omega.{arith}
 use borrow.Author.Needs.{needs}
 use Rattle.scenario_theory.proofs.RefusalLaws.{of-model}
@@ -10,24 +10,15 @@ use Rattle.engine.proofs.by_model.Tie as tie
 
 first : tie.Need-by-idriss-requires
 first c κs =
-    let k = c .before in
-    record {
-      model = c .if1 .taken;
-      accepted = k .pre .accepted;
-      row = k .pre .row ∙ sym (first-row _ (k .args .period) (c .if1 .taken));
-    }
+    let row = c .before .pre .row ∙ sym (first-row _ (c .before .args .period) (c .if1 .taken)) in
+    record { model = c .if1 .taken; accepted = c .before .pre .accepted; row = row }
 
 second : tie.Need-by-boore-atkinson-requires
 second c κs =
     let k = c .before in
-    elim (of-model _ (k .pre .accepted)) [
-      | inl p ↦ absurd (omega arith)
-      | inr p ↦ record {
-        model = p .0;
-        accepted = k .pre .accepted;
-        row = k .pre .row ∙ sym (second-row _ (k .args .period) (c .if1 .left));
-      }
-    ]
+    let row = k .pre .row ∙ sym (second-row _ (k .args .period) (c .if1 .left)) in
+    ⊎-elim (λ p. absurd (omega arith)) (λ p. record { model = p .0; accepted = k .pre .accepted; row = row })
+    (of-model _ (k .pre .accepted))
 
 pub by-model-spec : {M : Type 1} → statement M
 by-model-spec = tie.close (tie.spec first (λ c. search needs) second (λ c. search needs))

@@ -1,8 +1,5 @@
 -- `double` meets its contract.
-use mathlib.Core.Path.{sym, subst, ap}
-use lib.Dec.{T}
-use lib.IntN.{ℤ}
-use lib.Ieee.{binary64, inFloat}
+use mathlib.Core.Path.{ap}
 use mir.Syntax.{w64}
 use mir.ValLaws.{toZ-ofZ}
 use Rattle.engine_theory.specs.Evaluation.{doubleOf}
@@ -10,11 +7,9 @@ use Rattle.engine_theory.proofs.Exact.{in-range}
 use Rattle.engine.proofs.double.Statement.{statement}
 use Rattle.engine.proofs.double.Tie as tie
 
-in-doubles : tie.Need-int-to-float-result
-in-doubles c =
-    let a = c .before in
-    subst (λ (z : ℤ). T (inFloat binary64 z)) (sym (toZ-ofZ w64 (a .args .z) (a .fits .z)))
-    (in-range (a .args .z) (a .pre))
-
 pub double-spec : {M : Type 1} → statement M
-double-spec = tie.close (tie.spec in-doubles (λ c. ap doubleOf (toZ-ofZ w64 (c .before .args .z) (c .before .fits .z))))
+double-spec =
+    tie.close
+    (tie.spec
+    (λ c. rw (toZ-ofZ w64 _ (c .before .fits .z)) (in-range _ (c .before .pre)))
+    (λ c. ap doubleOf (toZ-ofZ w64 _ (c .before .fits .z))))

@@ -1,44 +1,44 @@
 -- `sigma` meets its contract.
-use mathlib.Core.Path.{_≡_, _∙_}
+use mathlib.Core.Path.{_≡_, refl, _∙_}
 use borrow.Author.Needs.{needs}
-use Rattle.signed_theory.specs.declared.Ends.{Ends}
-use Rattle.idriss_theory.specs.Promise.{SigmaEnds}
+use borrow.Author.Tests.{lt-ltb, le-ltb}
+use Rattle.interval_theory.specs.declared.Ends.{Ends}
+use Rattle.interval_theory.specs.Natural.{sumOf}
+use Rattle.interval_theory.specs.Signed.{endsOf}
+use Rattle.scenario_theory.proofs.RowLaws.{idriss-row}
+use Rattle.idriss_theory.specs.Evaluation.{clampedPeriod, clampedRow, listedTermOf, periodTermOf, sigmaPairOf}
 use Rattle.idriss_theory.specs.Evaluation.{sigmaOf}
-use Rattle.idriss_theory.proofs.Listed.{clamped-tabled}
-use Rattle.idriss_theory.proofs.Sums.{sigma-below, sigma-above}
-use Rattle.idriss_theory.proofs.SigmaLaws.{sigmaOf-promise}
+use Rattle.idriss_theory.proofs.Listed.{clamped-row}
+use Rattle.idriss_theory.proofs.SigmaLaws.{sigma-ends}
 use Rattle.idriss.proofs.sigma.Statement.{statement}
 use Rattle.idriss.proofs.sigma.Tie as tie
 
 period-term-requires : tie.Need-period-term-requires
 period-term-requires c κs =
-    rw (c .clamp2 .ensures) (clamped-tabled (c .before .before .args .period) (c .before .before .pre .tabled))
+    let k = c .before .before in rw (k .pre .1) (idriss-row (k .args .period) (k .pre .0 .tabled))
 
--- both branches give what `sigmaOf` does, and keep its promise
-sigma-ends : (k : tie.Start) {r : Ends} →
-    let s = sigmaOf (k .args .period) (k .args .magnitude) in
-    r ≡ s → (r ≡ s) × SigmaEnds (k .args .period) (k .args .magnitude) r
-sigma-ends k e = (e, rw e (sigmaOf-promise _ _ (k .pre)))
+-- the term by the clamped row is that of the clamped period
+term-is : (k : tie.Start) {e : Ends} → e ≡ listedTermOf (clampedRow (k .args .k)) →
+    e ≡ periodTermOf (clampedPeriod (k .args .period))
+term-is k e = e ∙ rw (k .pre .1, clamped-row (k .args .period) (k .pre .0 .tabled)) refl
 
 returns : tie.Need-returns
+unfolding sigmaOf sigmaPairOf endsOf sumOf
 returns c =
     let branch = c .before .before .before in
-    let term = branch .before in
-    let t = term .before in
-    let m = t .before in
-    let a = m .before .args in
-    sigma-ends (m .before) (c .between .ensures ∙ sigma-below (a .period) (a .magnitude) (t .clamp2 .ensures)
-    (m .clamp .ensures) (term .period-term .ensures .0) (branch .if1 .taken))
+    let t = branch .before .before in
+    let term = term-is (t .before .before) (branch .before .period-term .ensures .0) in
+    let below = lt-ltb _ 1_000 (rw (t .clamp2 .ensures) at (branch .if1 .taken)) in
+    sigma-ends (t .before .before .pre .0) (c .between .ensures ∙ rw (t .before .clamp .ensures, term, below))
 
 returns-2 : tie.Need-returns-2
+unfolding sigmaOf sigmaPairOf endsOf sumOf
 returns-2 c =
     let branch = c .before .before .before in
-    let term = branch .before in
-    let t = term .before in
-    let m = t .before in
-    let a = m .before .args in
-    sigma-ends (m .before) (c .between2 .ensures ∙ sigma-above (a .period) (a .magnitude) (t .clamp2 .ensures)
-    (m .clamp .ensures) (term .period-term .ensures .0) (branch .if1 .left))
+    let t = branch .before .before in
+    let term = term-is (t .before .before) (branch .before .period-term .ensures .0) in
+    let above = le-ltb _ 1_000 (rw (t .clamp2 .ensures) at (branch .if1 .left)) in
+    sigma-ends (t .before .before .pre .0) (c .between2 .ensures ∙ rw (t .before .clamp .ensures, term, above))
 
 pub sigma-spec : {M : Type 1} → statement M
 sigma-spec =

@@ -7,7 +7,5 @@ pub row-at-spec : {M : Type 1} → statement M
 row-at-spec =
     tie.close
     (tie.spec
-    (λ c κs. search needs)
-    (λ c. rw (c .before .if1 .taken) (c .row-of .ensures))
-    (λ c κs. search needs)
+    (λ c κs. search needs) (λ c. rw (c .before .if1 .taken) (c .row-of .ensures)) (λ c κs. search needs)
     (λ c. rw (c .before .if1 .left) (c .row-of2 .ensures)))

@@ -1,25 +1,14 @@
 -- `ln_hundredths` meets its contract.
-use mathlib.Core.Path.{_≡_, _∙_, ap}
 use native.Mathlib.Omega.{arith}
 use borrow.Author.Needs.{needs}
-use Rattle.logarithm_theory.specs.Evaluation.{scaledOf, scaledLnOf}
 use Rattle.logarithm_theory.proofs.Octave.{scales, unequal}
 use Rattle.logarithm_theory.proofs.Laws.{ln-ends}
 use Rattle.logarithm.proofs.ln_hundredths.Statement.{statement}
 use Rattle.logarithm.proofs.ln_hundredths.Tie as tie
 
-returns : tie.Need-returns
-returns c =
-    let s = c .before in
-    let k = s .before in
-    let scaled : s .scale .result ≡ scaledOf (k .args .a) 100 = s .scale .ensures in
-    ln-ends (k .pre .0)
-    (unequal (k .args .a) 100 (λ e. omega arith) (c .scaled-ln .ensures ∙ ap scaledLnOf scaled))
-
 pub ln-hundredths-spec : {M : Type 1} → statement M
 ln-hundredths-spec =
     tie.close
     (tie.spec
-    (λ c κs. search needs)
-    (λ c κs. rw (c .scale .ensures) (scales (c .before .pre .0) .normal))
-    returns)
+    (λ c κs. search needs) (λ c κs. rw (c .scale .ensures) (scales (c .before .pre .0) .normal))
+    (λ c. let k = c .before .before in ln-ends (k .pre .0) (unequal (k .args .a) 100 (λ e. omega arith) (cc))))

@@ -16,11 +16,6 @@ fine-known : (c : tie.After-fine) →
     Fine (c .before .before .before .args .y * c .before .before .coarse .result .by) (c .fine .result)
 fine-known c = let k = coarse-known (c .before .before) in rw (c .fine .ensures) (fine-at _ (k .least) (k .most))
 
-add-result : tie.Need-add-result
-add-result c =
-    let f = c .before .before .before .before in
-    omega (arith, coarse-known (f .before .before) .small, fine-known f .small)
-
 add-result-2 : tie.Need-add-result-2
 add-result-2 c =
     let n = c .before .before in
@@ -28,14 +23,8 @@ add-result-2 c =
     let w = fine-known f in
     rw (n .near-one .ensures) (omega (arith, coarse-known (f .before .before) .small, near-small (near w)))
 
-returns : tie.Need-returns
-unfolding mantissaLnOf
-returns c =
-    let n = c .before .before in
-    let f = n .before .before in
-    rw (n .near-one .ensures, f .fine .ensures, f .before .before .coarse .ensures)
-
 pub mantissa-ln-spec : {M : Type 1} → statement M
+unfolding mantissaLnOf
 mantissa-ln-spec =
     tie.close
     (tie.spec
@@ -45,4 +34,6 @@ mantissa-ln-spec =
     (λ c κs. search needs)
     (λ c. omega (arith, fine-known (c .before) .most))
     (λ c κs. near (fine-known (c .before)))
-    add-result add-result-2 returns)
+    (λ c. let f = c .before .before .before .before in omega (arith, coarse-known (f .before .before), fine-known f))
+    add-result-2
+    (λ c. cc))

@@ -7,16 +7,12 @@ use Rattle.logarithm_theory.proofs.Remainder.{distance, halved}
 use Rattle.logarithm.proofs.near_one.Statement.{statement}
 use Rattle.logarithm.proofs.near_one.Tie as tie
 
-returns : tie.Need-returns
-unfolding nearOneOf
-returns c = refl
-
 pub near-one-spec : {M : Type 1} → statement M
+unfolding nearOneOf
 near-one-spec =
     tie.close
     (tie.spec
     (λ c. search needs)
     (λ c. omega (arith, halved _ (distance (c .pre)) .square))
     (λ c. omega (arith, halved _ (distance (c .pre)) .square))
-    (λ c. halved _ (distance (c .pre)) .less)
-    (λ c. search needs) returns)
+    (λ c. halved _ (distance (c .pre)) .less) (λ c. search needs) (λ c. refl))

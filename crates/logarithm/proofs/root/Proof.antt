@@ -5,9 +5,10 @@ use Rattle.logarithm_theory.proofs.Laws.{rootOf-promise}
 use Rattle.logarithm.proofs.root.Statement.{statement}
 use Rattle.logarithm.proofs.root.Tie as tie
 
-returns : tie.Need-returns
-unfolding rootOf
-returns c = let e = c .whole-root .ensures in (e, rw e (rootOf-promise (c .before .args .x)))
-
 pub root-spec : {M : Type 1} → statement M
-root-spec = tie.close (tie.spec (λ c. search needs) (λ c κs. search needs) returns)
+unfolding rootOf
+root-spec =
+    tie.close
+    (tie.spec
+    (λ c. search needs) (λ c κs. search needs)
+    (λ c. let e = c .whole-root .ensures in (e, rw e (rootOf-promise (c .before .args .x)))))

@@ -6,14 +6,10 @@ use Rattle.logarithm_theory.proofs.Octave.{quotient-zeros}
 use Rattle.logarithm.proofs.scale.Statement.{statement}
 use Rattle.logarithm.proofs.scale.Tie as tie
 
-returns : tie.Need-returns
-unfolding scaledOf
-returns c = refl
-
 pub scale-spec : {M : Type 1} → statement M
+unfolding scaledOf
 scale-spec =
     tie.close
     (tie.spec
-    (λ c. search needs) (λ c. search needs)
-    (λ c. quotient-zeros (c .pre))
-    (λ c. search needs) (λ c. search needs) (λ c. search needs) returns)
+    (λ c. search needs) (λ c. search needs) (λ c. quotient-zeros (c .pre))
+    (λ c. search needs) (λ c. search needs) (λ c. search needs) (λ c. refl))

@@ -15,26 +15,19 @@ Inv-loop n half s₀ s = (n < suc s * suc s) × (s < 2 ^ 32)
 abbrev μ-loop : tie.MeasureT-loop
 μ-loop n half s₀ s = s
 
-loop-again : tie.Need-loop-again Inv-loop μ-loop
-loop-again c = (still-above _ _ (c .loop-test .taken), omega (arith, falls _ _ (c .loop-test .taken)))
-
-returns : tie.Need-returns Inv-loop μ-loop
-returns c = root-unique (record { low = c .loop-test .left; high = c .before .loop .inv .0 }) (wholeRoot-is _)
-
 pub whole-root-spec : {M : Type 1} → statement M
 whole-root-spec =
     tie.close
     (tie.spec
     Inv-loop μ-loop
     (λ c. leading-le 64 (c .args .n))
-    (λ c. omega (arith, first _ (c .pre) .few))
-    (λ c. omega (arith, first _ (c .pre) .few))
-    (λ c. omega (arith, first _ (c .pre) .few))
-    (λ c. omega (arith, first _ (c .pre) .few))
+    (λ c. omega (arith, first _ (c .pre) .few)) (λ c. omega (arith, first _ (c .pre) .few))
+    (λ c. omega (arith, first _ (c .pre) .few)) (λ c. omega (arith, first _ (c .pre) .few))
     (λ c. let f = first _ (c .pre) in rw (f .shifted) (omega arith))
     (λ c. let f = first _ (c .pre) in rw (f .shifted) (f .above, omega arith))
     (λ c. record { fits = square-fits _ (c .loop .inv .1) })
     (λ c. from-some _ _ (c .loop-test .taken))
     (λ c. omega (arith, quotient-less _ _ (c .loop-test .taken)))
     (λ c. falls _ _ (c .loop-test .taken))
-    loop-again returns)
+    (λ c. (still-above _ _ (c .loop-test .taken), omega (arith, falls _ _ (c .loop-test .taken))))
+    (λ c. root-unique (record { low = c .loop-test .left; high = c .before .loop .inv .0 }) (wholeRoot-is _)))

@@ -11,20 +11,15 @@ known : (c : tie.After-slice-known3) →
     let d = c .before .before in
     let t = d .before .before .before .before in
     Placed (decimal (t .before .before .before .before .args .n)) (t .put-text .last .0) (t .put-text .result)
-    (d .number .result) (d .number .last .1 .0)
+    (d .number .result) 0 (d .number .last .1 .0)
 known c =
     let d = c .before .before in
-    let t = d .before .before .before .before in
-    let k = t .before .before .before .before in
-    placed (decimal (k .args .n)) (t .put-text .last .0) (t .put-text .result)
-    (omega (arith, t .put-text .ensures .place, t .put-text .ensures .room, decimal-most (k .args .n)))
-    (d .number .ensures .0) (d .number .ensures .1)
+    let n = d .before .before .before .before .before .before .before .before .args .n in
+    placed _ _ _ 0 (omega (arith, decimal-most n)) (d .number .ensures)
 
 pub put-counted-spec : {M : Type 1} → statement M
 put-counted-spec =
     tie.close
     (tie.spec
     (λ c κs. search needs) (λ c. search needs) (λ c. search needs) (λ c. search needs) (λ c κs. search needs)
-    (λ c. record { fits = omega (arith, known c .place) })
-    (λ c. search needs)
-    (λ c. then-part (c .before .before .before .before .before .before .put-text .ensures) (known c .added)))
+    (λ c. omega (arith, known c)) (λ c. search needs) (λ c. let k = known c in search (needs, then-part)))

@@ -5,14 +5,9 @@ use native.Mathlib.Omega.{arith}
 use borrow.Author.Needs.{needs}
 use lib.ListN.{length, take}
 use lib.Seq.{length-take-le}
-use Rattle.record_theory.proofs.Laws.{read-size}
-use Rattle.engine_theory.specs.Evaluation.{answerOf}
-use Rattle.report_theory.specs.Lines.{lineOf}
 use Rattle.enclosures_theory.specs.Sizes.{lineMost}
-use Rattle.enclosures_theory.specs.Output.{ended}
-use Rattle.enclosures_theory.specs.Steps.{Added, Going}
-use Rattle.enclosures_theory.proofs.Adding.{part-length}
-use Rattle.enclosures_theory.proofs.Steps.{start, read-step, refused-step, end-step, has-room}
+use Rattle.enclosures_theory.specs.Steps.{Going}
+use Rattle.enclosures_theory.proofs.Steps.{start, taken, read-step, refused-step, end-step, has-room}
 use Rattle.page.proofs.put_lines.Statement.{statement}
 use Rattle.page.proofs.put_lines.Tie as tie
 
@@ -31,47 +26,28 @@ line-fits k =
     let front = length-take-le (s .args .start) (s .args .out .now) (omega arith) in
     omega (arith, has-room (l .inv .0) (k .loop-test .taken) (s .pre .1), front)
 
--- what an accepted read takes of the bytes that are left
-taken : (c : tie.After-slice-known2 Inv-loop μ-loop) →
-    let r = c .before .before .before .before .before .before in
+-- what is read takes some of the bytes that are left
+left : (c : tie.After-slice-known2 Inv-loop μ-loop) →
+    let r = c .before .before .before .before .before in
     let l = r .before .before .before .before .before in
-    (6 ≤ r .r .given .0 .1 .0) × (r .r .given .0 .1 .0 + l .loop .at ≤ length (l .before .before .before .args .s .now))
-taken c =
-    let r = c .before .before .before .before .before .before in
-    let t = r .before .before .before .before in
-    let l = t .before in
-    let size = read-size _ _ _ (sym (r .before .before .read .ensures .0) ∙ r .r .given .1) in
-    let whole = part-length (l .before .before .before .args .s .now) (l .loop .at) in
-    (size .0, omega arith)
+    (6 ≤ r .r .given .0 .1 .0) × (r .r .given .0 .1 .0 ≤ length (l .before .before .before .args .s .now) - l .loop .at)
+left c =
+    let r = c .before .before .before .before .before in
+    let e = sym (r .before .before .answer-next .ensures .0) ∙ r .r .given .1 in
+    let l = r .before .before .before .before .before in
+    taken (l .before .before .before .args .s .now) (l .loop .at) e
 
 loop-again : tie.Need-loop-again Inv-loop μ-loop
 loop-again c =
-    let p = c .before .before in
-    let a = p .before in
-    let r = a .before .before .before in
-    let t = r .before .before .before .before in
-    let l = t .before .loop in
-    let x = r .r .given .0 .0 in
-    let line = ended (lineOf (l .count + 1) (answerOf x)) in
-    let put : Added line (l .next) (l .out) (p .put-line .result) (p .put-line .last .0) =
-    rw (sym (a .answer-fields .ensures .0)) (p .put-line .ensures) in (
-      read-step (l .inv .0) (t .loop-test .taken) x _ (sym (r .before .before .read .ensures .0) ∙ r .r .given .1) put,
-      put .room ∙ l .inv .1,
-    )
+    let r = c .before .before .before .before .before in
+    let e = sym (r .before .before .answer-next .ensures .0) ∙ r .r .given .1 in
+    (search (needs, read-step), omega arith)
 
 returns : tie.Need-returns Inv-loop μ-loop
 returns c =
-    let p = c .before .before in
-    let r = p .before .before .before in
-    let t = r .before .before .before .before in
-    let l = t .before in
-    refused-step (l .loop .inv .0) (t .loop-test .taken) _ (l .before .before .before .pre .1)
-    (sym (r .before .before .read .ensures .0) ∙ r .r2 .given .1) (p .put-line2 .ensures)
-
-returns-2 : tie.Need-returns-2 Inv-loop μ-loop
-returns-2 c =
-    let l = c .before in
-    end-step (l .loop .inv .0) (c .loop-test .left) (l .before .before .before .pre .1)
+    let r = c .before .before .before .before .before in
+    let e = sym (r .before .before .answer-next .ensures .0) ∙ r .r2 .given .1 in
+    search (needs, refused-step)
 
 pub put-lines-spec : {M : Type 1} → statement M
 put-lines-spec =
@@ -80,10 +56,8 @@ put-lines-spec =
     Inv-loop μ-loop
     (λ c. (start _ _ _ (omega arith), refl))
     (λ c. search needs) (λ c. search needs) (λ c. search needs) (λ c. search needs) (λ c κs. search needs)
-    (λ c. search needs) (λ c κs. search needs)
-    (λ c κs. line-fits (c .before .before .before .before .before .before .before))
-    (λ c. record { fits = omega (arith, taken c) })
-    (λ c. omega (arith, taken c))
-    loop-again (λ c. search needs)
+    (λ c. search needs)
     (λ c κs. line-fits (c .before .before .before .before .before .before))
-    (λ c. search needs) returns (λ c. search needs) returns-2)
+    (λ c. omega (arith, left c)) (λ c. omega (arith, left c)) loop-again (λ c. search needs)
+    (λ c κs. line-fits (c .before .before .before .before .before .before))
+    (λ c. search needs) returns (λ c. search needs) (λ c. search (needs, end-step)))

@@ -1,7 +1,6 @@
 -- `put_text` meets its contract: after i turns the first i bytes of the text are added.
-use mathlib.Core.Path.{sym}
-use Prim.Native.Nat.{_+_, _-_, _≤_, _<_}
-use native.Mathlib.Nat.{add-assoc, add-zero}
+use Prim.Native.Nat.{_+_, _-_, _≤_}
+use native.Mathlib.Nat.{add-zero}
 use native.Mathlib.Omega.{arith}
 use borrow.Author.Needs.{needs}
 use lib.ListN.{length, take}
@@ -17,28 +16,13 @@ Inv-loop out₀ at text i₀ out i = (i ≤ length text) × Added (take i text) 
 abbrev μ-loop : tie.MeasureT-loop
 μ-loop out₀ at text i₀ out i = length text - i
 
-loop-holds : tie.Need-loop-holds Inv-loop μ-loop
-loop-holds c = (omega arith, rw add-zero (nothing (c .args .at) (c .args .out .now)))
-
-loop-again : tie.Need-loop-again Inv-loop μ-loop
-loop-again c =
-    let k = c .before .before in
-    let a = k .before .args in
-    let room : a .at + k .loop .i < length (k .loop .out) = omega arith in (
-      omega arith,
-      rw (sym (add-assoc (a .at) (k .loop .i) 1))
-          (then-next (a .text .now) (k .loop .i) (c .before .loop-test .taken) (k .loop .inv .1) room),
-    )
-
-returns : tie.Need-returns Inv-loop μ-loop
-returns c =
-    let l = c .before .loop in
-    rw (take-all (l .i) (c .before .before .args .text .now) (c .loop-test .left)) at (l .inv .1)
-
 pub put-text-spec : {M : Type 1} → statement M
 put-text-spec =
     tie.close
     (tie.spec
-    Inv-loop μ-loop loop-holds
-    (λ c. search needs) (λ c. search needs) (λ c. search needs) (λ c. search needs) (λ c. search needs) loop-again
-    (λ c. search needs) (λ c. search needs) returns)
+    Inv-loop μ-loop
+    (λ c. (omega arith, rw add-zero (search nothing)))
+    (λ c. search needs) (λ c. search needs) (λ c. search needs) (λ c. search needs) (λ c. search needs)
+    (λ c. (omega arith, then-next _ _ (c .before .loop-test .taken) (c .before .before .loop .inv .1) (omega arith)))
+    (λ c. search needs) (λ c. search needs)
+    (λ c. rw (take-all _ _ (c .loop-test .left)) at (c .before .loop .inv .1)))

@@ -1,37 +1,23 @@
 -- `probe_boore_atkinson` meets its contract.
 use mathlib.Core.Path.{_∙_, ap, refl}
 use borrow.Author.Needs.{needs}
-use Rattle.scenario_theory.specs.declared.Scenario.{Scenario}
 use Rattle.boore_atkinson_theory.proofs.Accepted.{median-domain}
-use Rattle.engine_theory.specs.Evaluation.{scenarioWith}
 use Rattle.probes.specs.Probe.{told, probedBooreAtkinson}
-use Rattle.probes.proofs.Domains.{row-taken, second-taken, is-told, is-none}
+use Rattle.probes.proofs.Domains.{taken}
+use Rattle.scenario_theory.proofs.RefusalLaws.{within-boore-atkinson}
 use Rattle.probes.proofs.probe_boore_atkinson.Statement.{statement}
 use Rattle.probes.proofs.probe_boore_atkinson.Tie as tie
 
-abbrev asked : tie.Start → Scenario
-asked c = let a = c .args in scenarioWith 2 (a .magnitude) (a .projection-distance) (a .velocity) (a .mechanism) 0
-
-takes : tie.Need-median-requires
-takes c κs =
-    let t = c .before .taken .ensures in
-    let s = asked (c .before .before) in
-    median-domain s (row-taken _ s t (c .if1 .taken)) (second-taken _ s t refl (c .if1 .taken))
-
-answered : tie.Need-returns
-unfolding probedBooreAtkinson
-answered c =
-    let i = c .before .before in
-    is-told _ (asked (i .before .before)) (i .before .taken .ensures) (i .if1 .taken)
-    (c .tell .ensures ∙ ap told (c .before .median .ensures .0))
-
-none : tie.Need-returns-2
-unfolding probedBooreAtkinson
-none c =
-    let i = c .before in
-    is-none _ (asked (i .before .before)) (i .before .taken .ensures) _ (i .if1 .left) (c .none .ensures)
-
 pub probe-boore-atkinson-spec : {M : Type 1} → statement M
+unfolding probedBooreAtkinson
 probe-boore-atkinson-spec =
     tie.close
-    (tie.spec (λ c κs. search needs) takes (λ c κs. search needs) answered (λ c κs. search needs) none)
+    (tie.spec
+    (λ c κs. search needs)
+    (λ c κs. let t = taken _ _ (c .before .taken .ensures) (c .if1 .taken) in
+    median-domain _ (t .row) (within-boore-atkinson _ refl (t .accepted)))
+    (λ c κs. search needs)
+    (λ c. let i = c .before .before in
+    rw (← (i .before .taken .ensures), i .if1 .taken) (c .tell .ensures ∙ ap told (c .before .median .ensures .0)))
+    (λ c κs. search needs)
+    (λ c. let i = c .before in rw (← (i .before .taken .ensures), i .if1 .left) (c .none .ensures)))

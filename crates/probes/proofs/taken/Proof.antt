@@ -7,13 +7,10 @@ use Rattle.probes.specs.Probe.{isTaken}
 use Rattle.probes.proofs.taken.Statement.{statement}
 use Rattle.probes.proofs.taken.Tie as tie
 
-no-row : tie.Need-returns
-unfolding isTaken
-no-row c = rw (le-leb _ _ (c .if1 .taken)) refl
-
-by-checks : tie.Need-returns-2
-unfolding isTaken
-by-checks c = rw (lt-leb _ _ (c .before .if1 .left)) (ap (λ r. eqb r 0) (c .refusal .ensures))
-
 pub taken-spec : {M : Type 1} → statement M
-taken-spec = tie.close (tie.spec no-row (λ c κs. search needs) by-checks)
+unfolding isTaken
+taken-spec =
+    tie.close
+    (tie.spec
+    (λ c. rw (le-leb _ _ (c .if1 .taken)) refl) (λ c κs. search needs)
+    (λ c. rw (lt-leb _ _ (c .before .if1 .left)) (ap (λ r. eqb r 0) (c .refusal .ensures))))

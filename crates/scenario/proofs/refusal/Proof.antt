@@ -1,23 +1,15 @@
 -- `refusal` meets its contract.
+use mathlib.Core.Path.{sym, _∙_}
 use borrow.Author.Needs.{needs}
-use borrow.Author.Tests.{eq-eqb, ne-eqb}
-use Rattle.scenario_theory.specs.Refusal.{refusalOf}
+use Rattle.scenario_theory.proofs.RowLaws.{passed, failed}
 use Rattle.scenario.proofs.refusal.Statement.{statement}
 use Rattle.scenario.proofs.refusal.Tie as tie
 
-idriss : tie.Need-returns
-unfolding refusalOf
-idriss c = simp (eq-eqb _ _ (c .before .if1 .taken), c .idriss-refusal .ensures)
+accepted : tie.Need-returns
+accepted c = sym (passed _ (sym (c .before .before .check .ensures) ∙ c .enum-told .given .1) .accepted)
 
-boore-atkinson : tie.Need-returns-2
-unfolding refusalOf
-boore-atkinson c =
-    let other = ne-eqb _ _ (c .before .before .before .if1 .left) in
-    simp (other, eq-eqb _ _ (c .before .if2 .taken), c .boore-atkinson-refusal .ensures)
-
-neither : tie.Need-returns-3
-unfolding refusalOf
-neither c = simp (ne-eqb _ _ (c .before .before .if1 .left), ne-eqb _ _ (c .if2 .left))
+refused : tie.Need-returns-2
+refused c = failed _ (sym (c .before .before .before .check .ensures) ∙ c .before .k .given .1) .number
 
 pub refusal-spec : {M : Type 1} → statement M
-refusal-spec = tie.close (tie.spec (λ c κs. search needs) idriss (λ c κs. search needs) boore-atkinson neither)
+refusal-spec = tie.close (tie.spec (λ c κs. search needs) (λ c. search needs) (λ c. search needs) accepted refused)

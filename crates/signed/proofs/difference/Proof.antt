@@ -11,7 +11,7 @@ use Rattle.signed.proofs.difference.Tie as tie
 sub-result-2 : tie.Need-sub-result-2
 sub-result-2 c =
     let a = c .before .args in
-    rw (cast (a .b - a .a) (omega arith), minus (a .b - a .a) (omega arith)) (record { sfits = omega arith })
+    rw (cast (a .b - a .a) (omega arith), minus (a .b - a .a) (omega arith)) (omega arith)
 
 returns : tie.Need-returns
 returns c =

@@ -39,12 +39,12 @@ negates c = let h = found c in rw (h .is, negated (h .n) (h .small)) (record { s
 casts : tie.Need-cast-result
 casts c =
     let h = found c in
-    rw (h .is, negated (h .n) (h .small), back (pos (h .n)) (h .small)) (tt, record { fits = omega arith })
+    rw (h .is, negated (h .n) (h .small), back (pos (h .n)) (h .small)) (tt, omega arith)
 
 adds-back : tie.Need-add-result-2
 adds-back c =
     let h = found c in
-    rw (h .is, negated (h .n) (h .small), back (pos (h .n)) (h .small)) (record { fits = omega arith })
+    rw (h .is, negated (h .n) (h .small), back (pos (h .n)) (h .small)) (omega arith)
 
 below : tie.Need-returns
 below c =
@@ -52,8 +52,8 @@ below c =
     rw (h .is, negated (h .n) (h .small), back (pos (h .n)) (h .small)) (add-one (h .n) ∙ sym (ap natAbs (h .same)))
 
 fit : (z : ℤ) → SFits w64 z → Fits w64 (natAbs z)
-fit (pos n) f = record { fits = omega arith }
-fit (negsuc n) f = record { fits = omega arith }
+fit (pos n) f = omega arith
+fit (negsuc n) f = omega arith
 
 casts-same : tie.Need-cast-result-2
 casts-same c =

@@ -1,0 +1,6 @@
+pub mod NaturalValues
+pub mod NaturalBounds
+pub mod Fits
+pub mod Bounded
+pub mod SignedValues
+pub mod SignedBounds

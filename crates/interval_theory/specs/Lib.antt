@@ -1,0 +1,3 @@
+pub mod Bound
+pub mod Natural
+pub mod Signed
