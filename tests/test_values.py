@@ -33,7 +33,7 @@ PART = re.compile(r'fraction \((alphaPart|betaFactor) \(idriss.rowFor ([\d_]+) (
                   r'\(pos ([\d_]+) over 100\)\) ' + VALUE)
 
 CUT = r'cutAt ([\d_]+) \((.*)\) \((pos|neg) ([\d_]+)\) \((pos|neg) ([\d_]+)\)'
-CUT_SCENARIO = re.compile(CUT.replace('(.*)', r'(median|sigma) \(scenarioOf ' + NUMBERS + r'\)'))
+CUT_SCENARIO = re.compile(CUT.replace('(.*)', r'(median|sigma) \(scenarioOf \(map some ' + NUMBERS + r'\)\)'))
 SITE = r'bnl \(rowFor ([\d_]+) \.site\) ([\d_]+)'
 CUT_SLOPE = re.compile(CUT.replace('(.*)', SITE))
 CUT_NONLINEAR = re.compile(CUT.replace('(.*)', r'nonlinearPart \(' + SITE + r'\) \(stated ' + VALUE + r'\)'))
