@@ -10,7 +10,7 @@ use Rattle.scenario_theory.specs.declared.Scenario.{Scenario}
 use Rattle.scenario_theory.specs.Refusal.{refusalOf}
 use Rattle.record_theory.specs.Outcome.{readRefusal, readOf, writeRefusal, writeOf}
 use Rattle.record_theory.specs.Outcome.{lentAfter}
-use Rattle.record_theory.proofs.ReadingLaws.{by-number}
+use Rattle.scenario_theory.proofs.CheckLaws.{by-number}
 use Rattle.engine_theory.specs.declared.Answer.{Answer}
 use Rattle.engine_theory.specs.declared.Answer.the-variants as A
 use Rattle.engine_theory.specs.Promise as engine

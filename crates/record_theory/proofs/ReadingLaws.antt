@@ -2,7 +2,7 @@
 use mathlib.Core.Path.{_≡_, refl, sym, ap, _∙_}
 use mathlib.Core.Bool.{true, false}
 use mathlib.Core.List.{List, []}
-use Prim.Native.Nat.{ℕ, zero, suc}
+use Prim.Native.Nat.{ℕ}
 use native.Mathlib.Omega.{arith}
 use borrow.Author.Tests.{ltb-false}
 use lib.Dec.{eqb}
@@ -10,10 +10,11 @@ use lib.ListN.{length, drop}
 use Rattle.scenario_theory.specs.declared.Scenario.{Scenario}
 use Rattle.scenario_theory.specs.declared.Check.{Check}
 use Rattle.scenario_theory.specs.declared.Check.the-variants as C
-use Rattle.scenario_theory.specs.Checks.{_when_, _otherwise_, unlessRefused}
+use Rattle.scenario_theory.specs.Checks.{_when_, _otherwise_}
 use Rattle.scenario_theory.specs.Refusal.{refusalOf}
 use Rattle.scenario_theory.specs.Rows.{rowOf, Looked, checkOf}
-use Rattle.scenario_theory.proofs.CheckLaws.{is-first, first-of-three, none-of, not-when, is-refused}
+use Rattle.scenario_theory.proofs.CheckLaws.{is-first, first-of-three, none-of, not-when}
+use Rattle.scenario_theory.proofs.CheckLaws.{is-refused, by-number, of-unless}
 use Rattle.record_theory.specs.declared.RowReading.{RowReading}
 use Rattle.record_theory.specs.declared.RowReading.the-variants as T
 use Rattle.record_theory.specs.declared.Reading.the-variants.{Read, Refused}
@@ -21,19 +22,6 @@ use Rattle.record_theory.specs.Layout.{layout, absentWritten}
 use Rattle.record_theory.specs.Outcome.{mapIn, scenarioIn, lengthBy, mapRefusal, readRefusal, readOf, restAt}
 use Rattle.record_theory.specs.Outcome.{restOf, readingNumber, readingValues, ReadPromise}
 use Rattle.record_theory.specs.Steps.{frontRefusal, fieldRefusal, fieldCheck, rowReadingOf, rowless, Complete}
-
--- ---- by the number of a refusal
-
--- what holds of either answer holds of the one that is given
-pub by-number : {A : Type 0} (P : A → Type 0) (k : ℕ) {a b : A} → (k ≡ 0 → P a) → ((k ≡ 0 → ⊥) → P b) →
-    P (unlessRefused k a b)
-by-number P zero f g = f refl
-by-number P (suc k) f g = g (λ z. omega arith)
-
--- a function of the answer that is given
-pub through : {A B : Type 0} (f : A → B) (k : ℕ) (a b : A) → f (unlessRefused k a b) ≡ unlessRefused k (f a) (f b)
-through f zero a b = refl
-through f (suc k) a b = refl
 
 -- ---- the checks in two parts, as the program makes them
 
@@ -107,13 +95,13 @@ module _ (s : List ℕ) where
 
   forgotten : rowless (rowReadingOf s) ≡ readOf s
   unfolding rowReadingOf readOf
-  forgotten = through rowless (readRefusal s) _ _
+  forgotten = of-unless rowless (readRefusal s) _ _
 
   read-promise : ReadPromise s (readOf s)
   unfolding readOf
   read-promise = record {
     number = by-number (λ r. readingNumber r ≡ readRefusal s) (readRefusal s) sym (λ n. refl);
-    values = through readingValues (readRefusal s) _ _;
+    values = of-unless readingValues (readRefusal s) _ _;
   }
 
   pub read-of : {t : RowReading} → rowReadingOf s ≡ t → (rowless t ≡ readOf s) × ReadPromise s (rowless t)

@@ -7,13 +7,12 @@ use borrow.Author.Tests.{lt-ltb, le-ltb}
 use lib.ListN.{length, drop}
 use Rattle.scenario_theory.specs.declared.Scenario.{Scenario}
 use Rattle.scenario_theory.specs.Refusal.{refusalOf}
-use Rattle.scenario_theory.proofs.CheckLaws.{is-first, none-of, is-refused}
+use Rattle.scenario_theory.proofs.CheckLaws.{is-first, none-of, is-refused, by-number, of-unless}
 use Rattle.record_theory.specs.declared.Writing.{Writing}
 use Rattle.record_theory.specs.declared.Writing.the-variants.{Length, Refused}
 use Rattle.record_theory.specs.Layout.{recordOf}
 use Rattle.record_theory.specs.Outcome.{writeRefusal, writeOf, lentAfter, writingNumber, writingValues}
 use Rattle.record_theory.specs.Outcome.{WritePromise}
-use Rattle.record_theory.proofs.ReadingLaws.{by-number, through}
 
 -- the contract of writing: the answer, the promise and the bytes that are left
 abbrev pub Keeps : Scenario → List ℕ → Writing → List ℕ → Type 0
@@ -24,7 +23,7 @@ module _ (x : Scenario) (lent : List ℕ) where
   unfolding writeOf
   write-promise = record {
     number = by-number (λ r. writingNumber r ≡ writeRefusal x lent) (writeRefusal x lent) sym (λ n. refl);
-    values = through writingValues (writeRefusal x lent) _ _;
+    values = of-unless writingValues (writeRefusal x lent) _ _;
   }
 
   keeps : {r : Writing} {after : List ℕ} → r ≡ writeOf x lent → after ≡ lentAfter x lent → Keeps x lent r after

@@ -47,3 +47,9 @@ pub of-unless : {A B : Type 0} (f : A → B) (k : ℕ) (a b : A) →
     f (unlessRefused k a b) ≡ unlessRefused k (f a) (f b)
 of-unless f zero a b = refl
 of-unless f (suc k) a b = refl
+
+-- what holds of either holds of it
+pub by-number : {A : Type 0} (P : A → Type 0) (k : ℕ) {a b : A} → (k ≡ 0 → P a) → ((k ≡ 0 → ⊥) → P b) →
+    P (unlessRefused k a b)
+by-number P zero f g = f refl
+by-number P (suc k) f g = g (λ z. omega arith)

@@ -1,7 +1,7 @@
 -- A loop goes through the places of a table, and holds the row of place k once it has passed k.
-use mathlib.Core.Path.{_≡_, refl, _∙_}
+use mathlib.Core.Path.{_≡_, _∙_}
 use mathlib.Core.List.{List, map}
-use Prim.Native.Nat.{ℕ, _+_, _<_}
+use Prim.Native.Nat.{ℕ, _<_}
 use native.Mathlib.Omega.{arith}
 use lib.ListN.{getD, List·getD-map}
 
@@ -11,14 +11,6 @@ Found past t k row i = k < i → row ≡ getD t k past
 
 pub first : {A : Type 0} (past : A) (t : List A) (k : ℕ) → Found past t k (getD t 0 past) 1
 first past t k h = let e : k ≡ 0 = omega arith in rw e
-
-pub met : {A : Type 0} (past : A) (t : List A) (k i : ℕ) {row : A} → i ≡ k → row ≡ getD t i past →
-    Found past t k row (i + 1)
-met past t k i e same h = same ∙ rw e refl
-
-pub unmet : {A : Type 0} (past : A) (t : List A) (k i : ℕ) {held row : A} → (i ≡ k → ⊥) → row ≡ held →
-    Found past t k held i → Found past t k row (i + 1)
-unmet past t k i other same found h = same ∙ found (omega (arith, h, other))
 
 -- where the table's rows are f of the definition's, so is the row that is found
 pub row-found : {A B : Type 0} (f : A → B) (rows : List A) (past : A) {t : List B} {row : B} (k i : ℕ) →
