@@ -2,7 +2,7 @@
 
 Run as: python3 tests/test_hosts.py C_ASK RUST_ASK PYTHON_ASK C_SPECTRUM RUST_SPECTRUM PYTHON_SPECTRUM [COUNT] [SEED]
 
-An ASK answers the questions of test_records.py (other than row) and of test_answers.py, a line each, and
+An ASK answers the questions of test_records.py (other than place) and of test_answers.py, a line each, and
 
     words NUMBER -> what the number of a refusal stands for
     null         -> the numbers of reading, answering from a record in both ways, and writing, with no bytes; then once
@@ -146,7 +146,7 @@ def all_questions(rng, count):
     for whole, doubles, _, due in test_answers.questions(rng, DRAWN):
         asked += [Question(line, line_or_scenario(due)) for line in (whole, doubles)]
     of_records = [question.line for question in test_records.questions(DRAWN, rng.randrange(2 ** 32))]
-    asked += about_records(line for line in of_records if not line.startswith('row '))
+    asked += about_records(line for line in of_records if not line.startswith('place '))
     asked += about_records(f'read {data.hex() or "-"}' for data in shortest() + longest())
     asked += about_records(test_records.text('write', *scenario, bytes(MANY).hex()) for scenario in WHOLE.values())
     return asked
