@@ -1,5 +1,5 @@
 -- How wide and how large the logarithm's ends are.
-use Prim.Native.Nat.{ℕ, _*_, _-_, _^_, _≤_, _<_}
+use Prim.Native.Nat.{_+_, ℕ, _*_, _-_, _^_, _≤_, _<_}
 use native.Mathlib.Nat.{mul-le-mul-left, le-of-mul-le-mul-right}
 use native.Mathlib.Omega.{arith}
 use Rattle.interval_theory.specs.Natural.{unit}
@@ -9,21 +9,18 @@ use Rattle.interval_theory.proofs.Bounded.{Bounded}
 use Rattle.logarithm_theory.specs.Promise.{LnDomain, lnWidth}
 use Rattle.logarithm_theory.specs.Evaluation.{lnOf}
 use Rattle.logarithm_theory.specs.Bound.{lnMost, lnBound, lnBetween}
-use Rattle.logarithm_theory.proofs.Laws.{lnOf-promise, lnOf-order, lnOf-small, lnOf-most}
+use Rattle.logarithm_theory.proofs.Laws.{lnOf-rounded, lnOf-most}
 use Rattle.logarithm_theory.proofs.Chain.{lnOf-chain}
 
 pub ln-sized : {a b : ℕ} → LnDomain a b → Sized (lnOf a b) lnWidth lnMost
-ln-sized d =
-    record { order = lnOf-order d; narrow = lnOf-promise d .narrow; least = omega arith; most = lnOf-small d }
+ln-sized d = lnOf-rounded d .sized
 
 pub ln-within : {a b : ℕ} → LnDomain a b → (a₁ b₀ : ℕ) → a ≤ a₁ → b₀ ≤ b → 1 ≤ b₀ → Within (lnOf a b) (lnBound a₁ b₀)
 ln-within {a} {b} d a₁ b₀ ha hb some =
-    let m : ℕ = upward ((a₁ - b₀) * unit) b₀ in
-    let k = upward-enough ((a₁ - b₀) * unit) b₀ some in
-    let f : lnOf a b .low * b ≤ m * b = omega (arith, mul-le-mul-left m hb, lnOf-most d) in
-    let low : lnOf a b .low ≤ m = le-of-mul-le-mul-right f (d .least) in
-    let s = ln-sized d in
-    omega arith
+    let n : ℕ = (a₁ - b₀) * unit in
+    let f : lnOf a b .low * b ≤ upward n b₀ * b =
+    omega (arith, upward-enough n b₀ some, mul-le-mul-left (upward n b₀) hb, lnOf-most d) in
+    omega (arith, ln-sized d, le-of-mul-le-mul-right f (d .least))
 
 -- with its bound
 abbrev pub logarithm : {a b : ℕ} (a₁ b₀ : ℕ) → LnDomain a b → a ≤ a₁ → b₀ ≤ b → 1 ≤ b₀ → Bounded (lnOf a b)
@@ -40,19 +37,14 @@ pub record Between (a b a₀ a₁ b₀ b₁ : ℕ) : Type 0 where
   pub order : b₁ ≤ a₀
   pub small : a₁ < 2 ^ 29
 
+-- from a/b to a'/b', which is not less
+rise : {a b a' b' : ℕ} → LnDomain a' b' → b' ≤ b → b ≤ a → a ≤ a' → lnOf a b .low ≤ lnOf a' b' .high + lnWidth
+rise {a} {b' = b'} d hb hab ha =
+    let inner : LnDomain a b' = omega arith in
+    omega (arith, ln-sized inner, lnOf-chain inner hb hab .low, lnOf-chain d (inner .order) ha .low)
+
 pub ln-between : {a b a₀ a₁ b₀ b₁ : ℕ} → Between a b a₀ a₁ b₀ b₁ → Within (lnOf a b) (lnBetween a₀ a₁ b₀ b₁)
-ln-between {a} {b} {a₀} {a₁} {b₀} {b₁} h =
+ln-between {a} {b} {a₁ = a₁} {b₀} h =
     let d : LnDomain a b = omega arith in
     let most : LnDomain a₁ b₀ = omega arith in
-    let least : LnDomain a b₁ = omega arith in
-    let inner : LnDomain a₁ b = omega arith in
-    let s = ln-sized d in
-    let t = ln-sized inner in
-    let u = ln-sized least in
-    omega (
-      arith,
-      lnOf-chain d (h .under) (omega arith) .low,
-      lnOf-chain least (h .order) (h .from) .low,
-      lnOf-chain inner (d .order) (h .to) .low,
-      lnOf-chain most (h .over) (inner .order) .low,
-    )
+    omega (arith, ln-sized d, rise most (h .over) (d .order) (h .to), rise d (h .under) (h .order) (h .from))

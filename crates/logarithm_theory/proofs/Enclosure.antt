@@ -2,6 +2,7 @@
 -- and show that the formula's value lies within the answer's: then the answer encloses the formula at every fineness.
 use mathlib.Core.Path.{_≡_, refl}
 use mathlib.Core.Bool.{cond}
+use mathlib.Core.Logic.{Dec·and}
 use Prim.Native.Nat.{ℕ, _^_, _≤_, _<_}
 use native.Mathlib.Nat.{le-of-lt, le-trans}
 use native.Mathlib.Decide.{decLe, decLt}
@@ -9,7 +10,7 @@ use native.Mathlib.Omega.{arith}
 use borrow.Author.Tests.{le-leb, lt-leb}
 use lib.Dec.{leb}
 use lib.IntN.{pos}
-use Rattle.exact_theory.specs.Fraction.{Fraction, zeroQ, negQ}
+use Rattle.exact_theory.specs.Fraction.{Fraction, negQ}
 use Rattle.exact_theory.specs.Pair.{Pair, _∈_}
 use Rattle.exact_theory.specs.Logarithm.{lnPair}
 use Rattle.exact_theory.specs.Root.{rootValues}
@@ -44,19 +45,16 @@ record Choice (n a b : ℕ) : Type 0 where
 
 choice : (n a b : ℕ) → 1 ≤ n → Choice n a b
 unfolding eval
-choice n a b g = go (decLe 1 b) (decLe b a) (decLt a (2 ^ 29))
-  where
-    go : Dec (1 ≤ b) → Dec (b ≤ a) → Dec (a < 2 ^ 29) → Choice n a b
-    go (yes p) (yes q) (yes r) =
-        let m = lnOf-promise (record { least = p; order = q; small = r }) .encloses .meets n g in
-        record { point = m .point; exact = λ _ _. m .right; within = λ _. m .left }
-    go (yes p) (yes q) (no r) = record {
-      point = lnPair n a b .low;
-      exact = λ _ _. record { from = ≤q-refl _; to = ln-proper (le-trans p q) p n g .ordered };
-      within = λ d. absurd (r (d .small));
-    }
-    go (yes p) (no q) r = record { point = zeroQ; exact = λ _ h. absurd (q h); within = λ d. absurd (q (d .order)) }
-    go (no p) q r = record { point = zeroQ; exact = λ h _. absurd (p h); within = λ d. absurd (p (d .least)) }
+choice n a b g = elim (Dec·and (Dec·and (decLe 1 b) (decLe b a)) (decLt a (2 ^ 29))) [
+  | yes h ↦
+      let m = lnOf-promise {a = a} {b = b} (omega arith) .encloses .meets n g in
+      record { point = m .point; exact = λ _ _. m .right; within = λ _. m .left }
+  | no h ↦ record {
+    point = lnPair n a b .low;
+    exact = λ p q. record { from = ≤q-refl _; to = ln-proper (le-trans p q) p n g .ordered };
+    within = λ d. absurd (h ((d .least, d .order), d .small));
+  }
+]
 
 module _ (n : ℕ) (g : 1 ≤ n) where
   abbrev points : Points
@@ -65,17 +63,10 @@ module _ (n : ℕ) (g : 1 ≤ n) where
     rootAt = λ X. rootOf-promise X .encloses .meets n g .point;
   }
 
-  -- b ≤ a
-  ordered : {a b : ℕ} → b ≤ a → points .lnAt a b ≡ choice n a b g .point
-  ordered {a} {b} h = simp (le-leb b a h)
-
-  turned : {a b : ℕ} → a < b → points .lnAt a b ≡ negQ (choice n b a g .point)
-  turned {a} {b} h = simp (lt-leb b a h)
-
   known : Known points
   known = record {
-    ln-within = λ {a} {b} d. rw (ordered (d .order)) (choice n a b g .within d);
-    ln-negated = λ {a} {b} h. rw (turned h, ordered (le-of-lt h)) refl;
+    ln-within = λ {a} {b} d. rw (le-leb b a (d .order)) (choice n a b g .within d);
+    ln-negated = λ {a} {b} h. rw (lt-leb b a h, le-leb a b (le-of-lt h)) refl;
     root-within = λ X. rootOf-promise X .encloses .meets n g .left;
   }
 
@@ -83,16 +74,14 @@ module _ (n : ℕ) (g : 1 ≤ n) where
   unfolding eval
   picked = record {
     lnIn = λ a b ha hb. elim (decLe b a) [
-      | yes h ↦ rw (ordered h) (choice n a b g .exact hb h)
-      | no h ↦ below a b ha (omega arith)
+      | yes h ↦ rw (le-leb b a h) (choice n a b g .exact hb h)
+      | no h ↦
+          let t : a < b = omega arith in
+          let c = choice n b a g .exact ha (le-of-lt t) in
+          rw (lt-leb b a t, ln-flipped t n) (record { from = neg-anti (c .to); to = neg-anti (c .from) })
     ];
     rootIn = λ X. rootOf-promise X .encloses .meets n g .right;
   }
-    where
-      below : (a b : ℕ) → 1 ≤ a → a < b → points .lnAt a b ∈ lnPair n a b
-      below a b ha h =
-          let c = choice n b a g .exact ha (le-of-lt h) in
-          rw (turned h, ln-flipped h n) (record { from = neg-anti (c .to); to = neg-anti (c .from) })
 
 -- ---- the only way up
 

@@ -1,8 +1,8 @@
 -- What is left of the mantissa after both factors: p/2^61 is 1 + d/2^41, d rounded down. Its logarithm is at least
 -- d − d²/2, by the midpoint value, and at most 64 units of 1/U more, by the trapezoid value and what was rounded off.
-use mathlib.Core.Path.{_≡_, refl}
+use mathlib.Core.Path.{_≡_, ap}
 use Prim.Native.Nat.{ℕ, suc, _+_, _*_, _-_, _/_, _^_, _≤_}
-use native.Mathlib.Nat.{mul-le-mul, mul-le-mul-right, le-of-mul-le-mul-right}
+use native.Mathlib.Nat.{mul-le-mul, mul-le-mul-right}
 use native.Mathlib.Omega.{arith}
 use Rattle.exact_theory.proofs.LogarithmLaws.{Bounds, bounds-wider, bounds-plus, bounds-times}
 use Rattle.interval_theory.specs.Natural.{unit}
@@ -23,44 +23,23 @@ pub record Halved (d t : ℕ) : Type 0 where
   pub less : t ≤ d
 
 pub halved : (d : ℕ) → d ≤ dMost → Halved d ((d * d + (2 ^ 42 - 1)) / 2 ^ 42)
-halved d h = go (d * d) refl (mul-le-mul h h) (mul-le-mul-right d h)
-  where
-    go : (s : ℕ) → s ≡ d * d → s ≤ dMost * dMost → s ≤ dMost * d →
-        Halved d ((d * d + (2 ^ 42 - 1)) / 2 ^ 42)
-    go s e a b = omega arith
-
-product : (d t : ℕ) → d ≤ dMost → d * d ≤ dMost * dMost → t * 2 ^ 42 ≤ d * d + 2 ^ 42 →
-    t * d ≤ 102_401 * dMost
-product d t p q r = mul-le-mul {n₁ = t} {n₂ = 102_401} (omega arith) p
+halved d h = omega (arith, mul-le-mul h h, mul-le-mul-right d h)
 
 -- ---- h is d − t, and m the same in units of 1/U
 
-least : (h m : ℕ) {d t : ℕ} → Halved d t → h + t ≡ d → m * 2 ^ 29 ≤ h * unit →
-    m * (d + 2 ^ 41 + 2 ^ 41) ≤ 2 * d * U
-least h m {d} {t} w e g =
-    let c : h * d ≤ d * d = mul-le-mul-right d (omega arith) in
-    let f : h * (d + 2 ^ 42) ≤ d * 2 ^ 42 = omega arith in
-    le-of-mul-le-mul-right {k = 2 ^ 29} (omega (arith, mul-le-mul-right (d + 2 ^ 42) g)) (omega arith)
+module _ (h m : ℕ) {d t : ℕ} (w : Halved d t) (e : h + t ≡ d) where
+  least : m * 2 ^ 29 ≤ h * unit → m * (d + 2 ^ 41 + 2 ^ 41) ≤ 2 * d * U
+  least g =
+      let c : h * d ≤ d * d = mul-le-mul-right d (omega arith) in
+      omega (arith, mul-le-mul-right (d + 2 ^ 42) g)
 
--- the trapezoid value of d is at most 65/2 above h
-chord-most : (h d t : ℕ) → h + t ≡ d → t * 2 ^ 42 ≤ d * d + 2 ^ 42 → t * d ≤ 102_401 * dMost →
-    d * (d + 2 ^ 42) ≤ (2 * h + 65) * (d + 2 ^ 41)
-chord-most h d t e p q = rw (← e) (omega (arith, rw (← e) at p, rw (← e) at q))
-
-scaled-most : (A Z h m : ℕ) → A ≤ (2 * h + 65) * Z → h * unit ≤ m * 2 ^ 29 + 2 ^ 29 →
-    A * U ≤ (m + 62) * (2 * (Z * 2 ^ 41))
-scaled-most A Z h m p g =
-    let f : (2 * h + 65) * unit ≤ (m + 62) * 2 ^ 30 = omega arith in
-    omega (arith, mul-le-mul-right Z f, mul-le-mul-right unit p)
-
-most : (h m : ℕ) {d t : ℕ} → Halved d t → h + t ≡ d → h * unit ≤ m * 2 ^ 29 + 2 ^ 29 →
-    d * (d + 2 ^ 41 + 2 ^ 41) * U ≤ (m + 62) * (2 * ((d + 2 ^ 41) * 2 ^ 41))
-most h m {d} {t} w e g =
-    let c = chord-most h d t e (w .above) (product d t (w .small) (w .square) (w .above)) in
-    rw whole (scaled-most (d * (d + 2 ^ 42)) (d + 2 ^ 41) h m c g)
-  where
-    whole : d + 2 ^ 41 + 2 ^ 41 ≡ d + 2 ^ 42
-    whole = omega arith
+  -- the trapezoid value of d is at most 65/2 above h
+  most : h * unit ≤ m * 2 ^ 29 + 2 ^ 29 → d * (d + 2 ^ 41 + 2 ^ 41) * U ≤ (m + 62) * (2 * ((d + 2 ^ 41) * 2 ^ 41))
+  most g =
+      let product : t * d ≤ 102_401 * d = mul-le-mul-right d (omega arith) in
+      let chord : d * (d + 2 ^ 42) ≤ (2 * h + 65) * (d + 2 ^ 41) = omega (arith, ap (λ z. z * d) e) in
+      let f : (2 * h + 65) * unit ≤ (m + 62) * 2 ^ 30 = omega arith in
+      omega (arith, mul-le-mul-right (d + 2 ^ 41) f)
 
 -- ---- p, from 2^20 (d + 2^41) to below 2^20 (d + 1 + 2^41)
 
@@ -69,22 +48,20 @@ distance n = omega arith
 
 pub near-one : {p : ℕ} → NearOne p → Bounds U (nearOneOf p) (nearOneOf p + 64) p (2 ^ 61)
 unfolding nearOneOf
-near-one {p} n = go ((p - 2 ^ 61) / 2 ^ 20) (distance n) (omega arith) (omega arith)
-  where
-    go : (d : ℕ) → d ≤ dMost → 2 ^ 20 * (d + 2 ^ 41) ≤ p → p ≤ 2 ^ 20 * suc (d + 2 ^ 41) →
-        let m : ℕ = (d - (d * d + (2 ^ 42 - 1)) / 2 ^ 42) * unit / 2 ^ 29 in Bounds U m (m + 64) p (2 ^ 61)
-    go d h l g =
-        let w = halved d h in
-        let t : ℕ = (d * d + (2 ^ 42 - 1)) / 2 ^ 42 in
-        let m : ℕ = (d - t) * unit / 2 ^ 29 in
-        let e : d - t + t ≡ d = omega arith in
-        let off =
-        bounds-rounded U 2 (2 ^ 20) (d + 2 ^ 41) p (omega arith) (omega arith) (omega arith) (omega arith) l g in
-        let low = least (d - t) m w e (omega arith) in
-        let high = most (d - t) m w e (omega arith) in
-        bounds-wider U m (m + 64) (omega arith) (omega arith) (omega arith) (omega arith)
-        (bounds-plus U {v = m} {w = m + 62} {b = 2 ^ 61} (omega arith) (omega arith) l off
-        (bounds-times (2 ^ 20) (omega arith) (areas U m (m + 62) d (2 ^ 41) (omega arith) (omega arith) low high)))
+near-one {p} n =
+    let d : ℕ = (p - 2 ^ 61) / 2 ^ 20 in
+    let t : ℕ = (d * d + (2 ^ 42 - 1)) / 2 ^ 42 in
+    let m : ℕ = (d - t) * unit / 2 ^ 29 in
+    let w = halved d (distance n) in
+    let e : d - t + t ≡ d = omega arith in
+    let low : 2 ^ 20 * (d + 2 ^ 41) ≤ p = omega arith in
+    let high : p ≤ 2 ^ 20 * suc (d + 2 ^ 41) = omega arith in
+    bounds-wider U m (m + 64) (omega arith) (omega arith) (omega arith) (omega arith)
+    (bounds-plus U {v = m} {w = m + 62} {b = 2 ^ 61} (omega arith) (omega arith) low
+    (bounds-rounded U 2 (2 ^ 20) (d + 2 ^ 41) p (omega arith) (omega arith) (omega arith) (omega arith) low high)
+    (bounds-times (2 ^ 20) (omega arith)
+    (areas U m (m + 62) d (2 ^ 41) (omega arith) (omega arith) (least (d - t) m w e (omega arith))
+    (most (d - t) m w e (omega arith)))))
 
 -- the size that the code rests on
 pub near-small : {p : ℕ} → NearOne p → nearOneOf p ≤ 1_250_000_000

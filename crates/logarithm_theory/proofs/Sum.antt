@@ -1,7 +1,7 @@
 -- The logarithm as a sum: what is left after both factors, the factors' own logarithms, the octaves.
 use mathlib.Core.Path.{_≡_}
 use Prim.Native.Nat.{ℕ, zero, suc, _+_, _*_, _^_, _≤_}
-use native.Mathlib.Nat.{mul-le-mul-left, mul-le-mul-right, one-le-mul, le-trans, mul-one, two-pow-succ}
+use native.Mathlib.Nat.{mul-le-mul-left, mul-le-mul-right, one-le-mul, le-trans}
 use native.Mathlib.Omega.{arith}
 use lib.Pow.{pow-pos}
 use Rattle.exact_theory.proofs.LogarithmLaws.{Bounds, bounds-wider, bounds-same, bounds-plus, bounds-times}
@@ -15,34 +15,31 @@ use Rattle.logarithm_theory.specs.declared.Scaled.{Scaled}
 use Rattle.logarithm_theory.specs.Promise.{LnDomain}
 use Rattle.logarithm_theory.specs.Evaluation.{Mantissa, NearOne, nearOneOf, mantissaLnOf, scaledOf}
 use Rattle.logarithm_theory.proofs.Remainder.{near-one, near-small}
-use Rattle.logarithm_theory.proofs.Octave.{Scales, scales}
+use Rattle.logarithm_theory.proofs.Octave.{scales}
 
 -- what both factors come to
 pub near : {w : ℕ} {f : Factor} → Fine w f → NearOne (w * f .by)
 near l = omega arith
 
+-- a and b times r are given as a' and b'
+scaled : (r : ℕ) {S x y a b a' b' : ℕ} → 1 ≤ r → r * a ≡ a' → r * b ≡ b' → Bounds S x y a b → Bounds S x y a' b'
+scaled r hr e f p = rw (← e, ← f) (bounds-times r hr p)
+
 -- ---- the mantissa, by the chain c f y, 2^61, 2^47 f, c f 2^35
 
-module _ {y : ℕ} {c f : Factor} (m : Mantissa y) (k : Coarse y c) (l : Fine (y * c .by) f) where
-  second-order : 2 ^ 47 * f .by ≤ 2 ^ 61
-  second-order = omega arith
-
-  last-order : c .by * f .by * 2 ^ 35 ≤ 2 ^ 47 * f .by
-  last-order = omega (arith, mul-le-mul-right (f .by) (k .up))
-
-  brought : let r : ℕ = nearOneOf (y * c .by * f .by) in
-      Bounds U (c .logarithm + f .logarithm + r) (c .logarithm + f .logarithm + r + 89) y (2 ^ 35)
-  brought =
-      let first : c .by * f .by * y ≡ y * c .by * f .by = omega arith in
-      let third : 2 ^ 35 * f .by * 4096 ≡ 2 ^ 47 * f .by = omega arith in
-      let last : 2 ^ 35 * f .by * c .by ≡ c .by * f .by * 2 ^ 35 = omega arith in
-      bounds-over (c .by * f .by) (one-le-mul (k .some) (l .some)) (omega arith) (m .least)
-      (bounds-wider U _ _ (omega arith) (omega arith) (omega arith) (omega arith)
-      (bounds-plus U {x = nearOneOf (y * c .by * f .by)} {y = nearOneOf (y * c .by * f .by) + 64} (omega arith)
-      (le-trans last-order second-order) (rw first (l .least)) (rw first (near-one (near l)))
-      (bounds-plus U (omega arith) last-order second-order (bounds-times (2 ^ 47) (omega arith) (l .entry))
-      (rw (third, last) at
-      (bounds-times (2 ^ 35 * f .by) (one-le-mul {a = 2 ^ 35} (omega arith) (l .some)) (k .entry))))))
+brought : {y : ℕ} {c f : Factor} → Mantissa y → Coarse y c → Fine (y * c .by) f →
+    let r : ℕ = nearOneOf (y * c .by * f .by) in
+    Bounds U (c .logarithm + f .logarithm + r) (c .logarithm + f .logarithm + r + 89) y (2 ^ 35)
+brought {y} {c} {f} m k l =
+    let r : ℕ = nearOneOf (y * c .by * f .by) in
+    let same : c .by * f .by * y ≡ y * c .by * f .by = omega arith in
+    let third : c .by * f .by * 2 ^ 35 ≤ 2 ^ 47 * f .by = omega (arith, mul-le-mul-right (f .by) (k .up)) in
+    bounds-over (c .by * f .by) (one-le-mul (k .some) (l .some)) (omega arith) (m .least)
+    (bounds-wider U _ _ (omega arith) (omega arith) (omega arith) (omega arith)
+    (bounds-plus U {x = r} {y = r + 64} {c = 2 ^ 61} (omega arith) (omega arith) (omega (arith, l .least))
+    (rw same (near-one (near l)))
+    (bounds-plus U (omega arith) third (omega arith) (bounds-times (2 ^ 47) (omega arith) (l .entry))
+    (scaled (2 ^ 35 * f .by) (omega (arith, l .some)) (omega arith) (omega arith) (k .entry)))))
 
 -- what the code rests on, and the bounds, at the tables' entries
 pub record MantissaLn (y : ℕ) : Type 0 where
@@ -65,35 +62,26 @@ one-octave = bounds-over 2048 (omega arith) (omega arith) (omega arith) (coarse-
 octaves : (k : ℕ) → Bounds U (k * ln2) (k * (ln2 + 23)) (2 ^ k) 1
 octaves zero = bounds-same (omega arith) (omega arith)
 octaves (suc k) =
-    let twice : 2 ^ suc k ≡ 2 ^ k * 2 = omega (arith, two-pow-succ k) in
-    rw twice (bounds-wider U _ _ (omega arith) (omega arith) (omega arith) (omega arith)
-    (bounds-plus U (omega arith) (pow-pos k) (omega arith)
-    (rw (mul-one (2 ^ k)) at (bounds-times (2 ^ k) (pow-pos k) one-octave)) (octaves k)))
+    bounds-wider U _ _ (omega arith) (omega arith) (omega arith) (omega arith)
+    (bounds-plus U {c = 2 ^ k} (omega arith) (pow-pos k) (omega arith)
+    (scaled (2 ^ k) (pow-pos k) (omega arith) (omega arith) one-octave) (octaves k))
 
 -- ---- a/b, by the chain 2^35 a, b 2^k y, b 2^k 2^35, 2^35 b
 
-module _ {a b : ℕ} (d : LnDomain a b) (s : Scaled) (w : Scales a b s) where
-  abbrev base : ℕ
-  base = b * 2 ^ s .octave
-
-  base-some : 1 ≤ b * 2 ^ s .octave
-  base-some = one-le-mul (d .least) (pow-pos (s .octave))
-
-  added : let x : ℕ = s .octave * ln2 + mantissaLnOf (s .mantissa) in Bounds U x (x + 23 * s .octave + 209) a b
-  added =
-      let y : ℕ = s .mantissa in
-      let m = w .normal .mantissa in
-      let n = mantissa-ln m in
-      let third : 2 ^ 35 * b ≤ base * 2 ^ 35 = omega (arith, mul-le-mul-left b (pow-pos (s .octave))) in
-      let top : 2 ^ 35 * b * 2 ^ s .octave ≡ base * 2 ^ 35 = omega arith in
-      let bottom : 2 ^ 35 * b * 1 ≡ 2 ^ 35 * b = omega arith in
-      bounds-over (2 ^ 35) (omega arith) (d .least) (d .order)
-      (bounds-wider U _ _ (omega arith) (omega arith) (omega arith) (omega arith)
-      (bounds-plus U (omega arith) (le-trans third (mul-le-mul-left base (m .least))) (w .low)
-      (bounds-rounded U 120 base y (2 ^ 35 * a) (omega arith) base-some (omega arith) (omega arith) (w .low) (w .high))
-      (bounds-plus U (omega arith) third (mul-le-mul-left base (m .least)) (bounds-times base base-some (n .bounds))
-      (rw (top, bottom) at (bounds-times (2 ^ 35 * b) (omega arith) (octaves (s .octave)))))))
-
 pub total : {a b : ℕ} → LnDomain a b → let s : Scaled = scaledOf a b in
     let x : ℕ = s .octave * ln2 + mantissaLnOf (s .mantissa) in Bounds U x (x + 23 * s .octave + 209) a b
-total {a} {b} d = added d (scaledOf a b) (scales d)
+total {a} {b} d =
+    let s : Scaled = scaledOf a b in
+    let w = scales d in
+    let y : ℕ = s .mantissa in
+    let m = w .normal .mantissa in
+    let base : ℕ = b * 2 ^ s .octave in
+    let some : 1 ≤ base = one-le-mul (d .least) (pow-pos (s .octave)) in
+    let second = mul-le-mul-left base (m .least) in
+    let third : 2 ^ 35 * b ≤ base * 2 ^ 35 = omega (arith, mul-le-mul-left b (pow-pos (s .octave))) in
+    bounds-over (2 ^ 35) (omega arith) (d .least) (d .order)
+    (bounds-wider U _ _ (omega arith) (omega arith) (omega arith) (omega arith)
+    (bounds-plus U (omega arith) (le-trans third second) (w .low)
+    (bounds-rounded U 120 base y (2 ^ 35 * a) (omega arith) some (omega arith) (omega arith) (w .low) (w .high))
+    (bounds-plus U {c = base * 2 ^ 35} (omega arith) third second (bounds-times base some (mantissa-ln m .bounds))
+    (scaled (2 ^ 35 * b) (omega arith) (omega arith) (omega arith) (octaves (s .octave))))))
