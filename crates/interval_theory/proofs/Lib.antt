@@ -1,6 +1,5 @@
 pub mod NaturalValues
 pub mod NaturalBounds
-pub mod Fits
 pub mod Bounded
 pub mod SignedValues
 pub mod SignedBounds

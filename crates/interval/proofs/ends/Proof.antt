@@ -4,9 +4,6 @@ use Rattle.interval_theory.specs.Signed.{endsOf}
 use Rattle.interval.proofs.ends.Statement.{statement}
 use Rattle.interval.proofs.ends.Tie as tie
 
-returns : tie.Need-returns
-unfolding endsOf
-returns c = c .between .ensures
-
 pub ends-spec : {M : Type 1} → statement M
-ends-spec = tie.close (tie.spec (λ c κs. search needs) returns)
+unfolding endsOf
+ends-spec = tie.close (tie.spec (λ c κs. search needs) (λ c. search needs))

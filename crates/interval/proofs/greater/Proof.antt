@@ -6,15 +6,9 @@ use Rattle.signed_theory.proofs.Laws.{compared}
 use Rattle.interval.proofs.greater.Statement.{statement}
 use Rattle.interval.proofs.greater.Tie as tie
 
-first : tie.Need-returns
-first c =
-    let s = c .before in
-    rw (compared (s .fits .a) (s .fits .b) (c .if1 .taken), toZ-ofZ w64 _ (s .fits .b)) refl
-
-second : tie.Need-returns-2
-second c =
-    let s = c .before in
-    rw (compared (s .fits .a) (s .fits .b) (c .if1 .left), toZ-ofZ w64 _ (s .fits .a)) refl
-
 pub greater-spec : {M : Type 1} → statement M
-greater-spec = tie.close (tie.spec first second)
+greater-spec =
+    tie.close
+    (tie.spec
+    (λ c. let f = c .before .fits in rw (compared (f .a) (f .b) (c .if1 .taken), toZ-ofZ w64 _ (f .b)) refl)
+    (λ c. let f = c .before .fits in rw (compared (f .a) (f .b) (c .if1 .left), toZ-ofZ w64 _ (f .a)) refl))

@@ -5,9 +5,6 @@ use Rattle.interval_theory.specs.Natural.{sumOf}
 use Rattle.interval.proofs.sum.Statement.{statement}
 use Rattle.interval.proofs.sum.Tie as tie
 
-returns : tie.Need-returns
-unfolding sumOf
-returns c = refl
-
 pub sum-spec : {M : Type 1} → statement M
-sum-spec = tie.close (tie.spec (λ c. search needs) (λ c. search needs) returns)
+unfolding sumOf
+sum-spec = tie.close (tie.spec (λ c. search needs) (λ c. search needs) (λ c. refl))
