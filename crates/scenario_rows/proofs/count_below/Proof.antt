@@ -17,37 +17,25 @@ Inv-loop period t n₀ i₀ n i = (n ≡ countBelow (take i t) period) × ((n �
 abbrev μ-loop : tie.MeasureT-loop
 μ-loop period t n₀ i₀ n i = 22 - i
 
-holds : tie.Need-loop-holds Inv-loop μ-loop
-unfolding countBelow
-holds c = (refl, (omega arith, omega arith))
-
 again : tie.Need-loop-again Inv-loop μ-loop
 again c =
     let a = c .before .before in
-    let t = a .before .periods .result in
-    let T = a .before .before .args .period in
     ⊎-elim
-    (λ w. (count-one t T (a .loop .i) (omega arith) (a .loop .inv .0) (w .0 .taken) (w .1), (omega arith, omega arith)))
-    (λ w. (count-none t T (a .loop .i) (omega arith) (a .loop .inv .0) (w .0 .left) (w .1), (omega arith, omega arith)))
+    (λ w. (count-one _ _ (a .loop .i) (omega arith) (a .loop .inv .0) (w .0 .taken) (w .1), omega arith))
+    (λ w. (count-none _ _ (a .loop .i) (omega arith) (a .loop .inv .0) (w .0 .left) (w .1), omega arith))
     (c .if1 .came)
 
 returns : tie.Need-returns Inv-loop μ-loop
 returns c =
     let l = c .before .loop in
     let end : l .i ≡ 22 = omega arith in
-    let T = c .before .before .before .args .period in
-    (rw (end, c .before .before .periods .ensures) at (l .inv .0) ∙ count-all (idriss .periods) T, omega arith)
+    (rw (end, c .before .before .periods .ensures) at (l .inv .0) ∙ count-all (idriss .periods) _, omega arith)
 
 pub count-below-spec : {M : Type 1} → statement M
+unfolding countBelow
 count-below-spec =
     tie.close
     (tie.spec
-    Inv-loop μ-loop
-    (λ c κs. tt)
-    holds
-    (λ c. search needs)
-    (λ c. search needs)
-    (λ c. search needs)
-    (λ c. search needs)
-    (λ c. omega arith)
+    Inv-loop μ-loop (λ c κs. tt) (λ c. (refl, omega arith))
+    (λ c. search needs) (λ c. search needs) (λ c. search needs) (λ c. search needs) (λ c. omega arith)
     again returns)
