@@ -1,5 +1,6 @@
 -- A pair with a bound that is computed along with it: a chain of steps is written once, and its numbers by nobody.
 use Prim.Native.Nat.{ℕ, _+_, _*_, _^_, _≤_}
+use native.Mathlib.Omega.{arith}
 use lib.Dec.{T, leb, ltb, ltb→lt}
 use Rattle.interval_theory.specs.declared.Ends.{Ends}
 use Rattle.interval_theory.specs.Natural.{exactly, MultipleDomain, multipleOf, ProductDomain, productOf}
@@ -8,7 +9,7 @@ use Rattle.interval_theory.specs.Bound.{Bound, Within, size, _fits_, pai
 use Rattle.interval_theory.specs.Bound.{sumBound, hullBound}
 use Rattle.interval_theory.proofs.NaturalBounds.{fitting, wider, pair-within, exactly-within, multiple-within}
 use Rattle.interval_theory.proofs.NaturalBounds.{product-within, sum-within, hull-within, multiple-takes}
-use Rattle.interval_theory.proofs.NaturalBounds.{product-takes, sum-takes}
+use Rattle.interval_theory.proofs.NaturalBounds.{product-takes}
 
 pub record Bounded (e : Ends) : Type 0 where
   pub bound : Bound
@@ -39,14 +40,14 @@ module _ {x y : Ends} (p : Bounded x) (q : Bounded y) where
   hull = record { bound = hullBound (p .bound) (q .bound); within = hull-within (p .within) (q .within) }
 
   pub product-fits : T (ltb (p .bound .most * q .bound .most) (2 ^ 63)) → ProductDomain x y
-  product-fits t = product-takes (p .within) (q .within) (ltb→lt (p .bound .most * q .bound .most) (2 ^ 63) t)
+  product-fits t = product-takes (p .within) (q .within) (omega (arith, ltb→lt))
 
   pub sum-fits : T (ltb (p .bound .most + q .bound .most) (2 ^ 63)) → SumDomain x y
-  sum-fits t = sum-takes (p .within) (q .within) (ltb→lt (p .bound .most + q .bound .most) (2 ^ 63) t)
+  sum-fits t = omega (arith, ltb→lt)
 
 pub multiple-fits : {c : ℕ} (m : ℕ) → c ≤ m → {e : Ends} (p : Bounded e) → T (ltb (m * p .bound .most) (2 ^ 63)) →
     MultipleDomain c e
-multiple-fits m h p t = multiple-takes h (p .within) (ltb→lt (m * p .bound .most) (2 ^ 63) t)
+multiple-fits m h p t = multiple-takes h (p .within) (omega (arith, ltb→lt))
 
 -- what a contract says of a pair, by one computed test
 pub at-most : {e : Ends} (p : Bounded e) (β : Bound) → T (p .bound fits β) → Within e β

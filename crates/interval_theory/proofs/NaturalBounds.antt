@@ -2,13 +2,13 @@
 -- step to fit.
 use Prim.Native.Nat.{ℕ, _+_, _*_, _-_, _/_, _^_, _≤_, _<_}
 use native.Mathlib.Nat.{mul-le-mul, mul-le-mul-left, mul-le-mul-right, div-mul-le-self, lt-div-mul-add}
-use native.Mathlib.Nat.{le-div-iff-mul-le, div-lt-iff-lt-mul, le-trans}
+use native.Mathlib.Nat.{le-div-iff-mul-le, div-lt-iff-lt-mul, le-refl, le-trans}
 use native.Mathlib.Omega.{arith}
 use lib.Dec.{T, leb, leb→le}
 use Rattle.toolbox_theory.proofs.Tests.{and-left, and-right}
 use Rattle.interval_theory.specs.declared.Ends.{Ends}
 use Rattle.interval_theory.specs.Natural.{unit, exactly, scale, MultipleDomain, multipleOf, ProductDomain}
-use Rattle.interval_theory.specs.Natural.{productOf, QuotientDomain, quotientOf, SumDomain, sumOf, hullOf}
+use Rattle.interval_theory.specs.Natural.{productOf, QuotientDomain, quotientOf, sumOf, hullOf}
 use Rattle.interval_theory.specs.Bound.{Bound, Within, size, _fits_, upward, pairBound, multipleBound}
 use Rattle.interval_theory.specs.Bound.{productBound, quotientBound, sumBound, hullBound}
 
@@ -38,8 +38,8 @@ exactly-within b h = omega arith
 pub upward-enough : (n d : ℕ) → 1 ≤ d → n ≤ upward n d * d
 upward-enough n d h = omega (arith, lt-div-mul-add {a = n + (d - 1)} h)
 
-pub in-order : (x y s : ℕ) → 1 ≤ s → x ≤ y → x / s ≤ y / s
-in-order x y s h le = le-div-iff-mul-le h .1 (omega (arith, div-mul-le-self x s))
+in-order : (x y : ℕ) {s t : ℕ} → 1 ≤ t → t ≤ s → x ≤ y → x / s ≤ y / t
+in-order x y {s} h g le = le-div-iff-mul-le h .1 (omega (arith, div-mul-le-self x s, mul-le-mul-left (x / s) g))
 
 -- the bound of a division by s: from x to y, w apart at most, from l on and up to m
 divided : (x y w l m s : ℕ) → 1 ≤ s → x ≤ y → y ≤ x + w → l ≤ x → y ≤ m →
@@ -49,7 +49,7 @@ divided x y w l m s h order narrow least most =
     let apart : y / s < x / s + (upward w s + 1) =
     div-lt-iff-lt-mul h .1 (omega (arith, upward-enough w s h, lt-div-mul-add {a = x} h)) in
     let top : y / s < upward m s + 1 = div-lt-iff-lt-mul h .1 (omega (arith, upward-enough m s h)) in
-    omega (arith, in-order x y s h order, in-order l x s h least)
+    omega (arith, in-order x y h (le-refl s) order, in-order l x h (le-refl s) least)
 
 -- ---- multiples
 
@@ -90,9 +90,6 @@ module _ {x y : Ends} {α β : Bound} (p : Within x α) (q : Within y β) where
 
   -- ---- sums and hulls
 
-  pub sum-takes : α .most + β .most < 2 ^ 63 → SumDomain x y
-  sum-takes h = omega arith
-
   pub sum-within : Within (sumOf x y) (sumBound α β)
   unfolding sumOf
   sum-within = omega arith
@@ -112,20 +109,17 @@ module _ {x y : Ends} {α β : Bound} (p : Within x α) (q : Within y β) (some 
   quotient-within =
       let l = x .low * unit / y .high in
       let h = x .high * unit / y .low in
-      let n = α .least * unit / β .most in
       let m = α .most * unit / β .least in
-      let k = upward (α .width * unit + (m + 1) * β .width) (β .least) in
+      let n = α .width * unit + (m + 1) * β .width in
+      let k = upward n (β .least) in
       let low : 1 ≤ y .low = omega arith in
       let high : 1 ≤ y .high = omega arith in
-      let l-le = div-mul-le-self (x .low * unit) (y .high) in
-      let l-lt = lt-div-mul-add {a = x .low * unit} high in
-      let n-le = div-mul-le-self (α .least * unit) (β .most) in
-      let m-lt = lt-div-mul-add {a = α .most * unit} some in
-      let order : l ≤ h = le-div-iff-mul-le low .1 (omega (arith, mul-le-mul-left l (q .order))) in
-      let most : h < m + 1 = div-lt-iff-lt-mul low .1 (omega (arith, mul-le-mul-left (m + 1) (q .least))) in
-      let least : n ≤ l = le-div-iff-mul-le high .1 (omega (arith, mul-le-mul-left n (q .most))) in
+      let order = in-order (x .low * unit) (x .high * unit) low (q .order) (omega arith) in
+      let most = in-order (x .high * unit) (α .most * unit) some (q .least) (omega arith) in
+      let least = in-order (α .least * unit) (x .low * unit) high (q .most) (omega arith) in
       let few : (l + 1) * β .width ≤ (m + 1) * β .width = mul-le-mul-right (β .width) (omega arith) in
-      let enough = upward-enough (α .width * unit + (m + 1) * β .width) (β .least) some in
+      let up = lt-div-mul-add {a = x .low * unit} high in
+      let enough = upward-enough n (β .least) some in
       let narrow : h < l + 1 + k =
       div-lt-iff-lt-mul low .1 (omega (arith, mul-le-mul-left (l + 1) (q .narrow), mul-le-mul-left k (q .least))) in
       omega arith

@@ -26,7 +26,7 @@ pub natural-order : {x : Fraction} {e : Ends} → Held x e → e .low ≤ e .hig
 natural-order {e = e} h =
     omega (arith, le-as (units-Is (e .low) 0) (units-Is (e .high) 0) (≤q-trans (h .from) (h .to)))
 
--- q is the quotient of a division by s, and the next number is at least what was divided
+-- what is divided by s is at most s times the number after the quotient
 pub next : (x s : ℕ) → 1 ≤ s → x ≤ (x / s + 1) * s
 next x s h = omega (arith, lt-div-mul-add {a = x} h)
 

@@ -63,12 +63,10 @@ module _ (y z : ℤ) where
       (λ t. (units-rise y z (le-out y z t), ≤q-refl _)) (λ t. (≤q-refl _, units-rise z y (omega (arith, gt-out y z t))))
 
 module _ {x : Fraction} (a b : SignedEnds) where
-  pub signed-hull-left : x ∈ ends (a .low) (a .high) →
-      x ∈ ends (signedHullOf a b .low) (signedHullOf a b .high)
+  pub signed-hull-left : x ∈ ends (a .low) (a .high) → x ∈ ends (signedHullOf a b .low) (signedHullOf a b .high)
   unfolding signedHullOf ends
   signed-hull-left h = search (≤q-trans, lesser-below (a .low) (b .low), greater-above (a .high) (b .high), h)
 
-  pub signed-hull-right : x ∈ ends (b .low) (b .high) →
-      x ∈ ends (signedHullOf a b .low) (signedHullOf a b .high)
+  pub signed-hull-right : x ∈ ends (b .low) (b .high) → x ∈ ends (signedHullOf a b .low) (signedHullOf a b .high)
   unfolding signedHullOf ends
   signed-hull-right h = search (≤q-trans, lesser-below (a .low) (b .low), greater-above (a .high) (b .high), h)

@@ -34,26 +34,21 @@ unfolding lnOf scaledLnOf
 lnOf-rounded {a} {b} d =
     by-test (eqb a b) (Rounded a b)
     (λ t. rw (eqb→eq a b t) (record { bounds = bounds-same (d .least) (omega arith); sized = omega arith }))
-    (λ _.
-    let n = scales d .normal in
-    record {
+    (λ _. record {
       bounds = bounds-wider unit _ _ (omega arith) (omega arith) (omega arith) (omega arith) (total d);
-      sized = omega (arith, mantissa-ln (n .mantissa) .small);
+      sized = omega (arith, scales d .normal .few, mantissa-ln (scales d .normal .mantissa) .small);
     })
 
 -- ---- the promises
 
-lnOf-same : {a b : ℕ} → a ≡ b → (lnOf a b .low ≡ 0) × (lnOf a b .high ≡ 0)
-unfolding lnOf
-lnOf-same {a} {b} e = simp (eq-eqb a b e) (refl, refl)
-
 pub lnOf-promise : {a b : ℕ} → LnDomain a b → LnEnds a b (lnOf a b)
-lnOf-promise d =
+unfolding lnOf
+lnOf-promise {a} {b} d =
     let r = lnOf-rounded d in
     record {
       encloses = encloses-ln (d .least) (d .order) (r .sized .order) (r .bounds);
       narrow = r .sized .narrow;
-      same = lnOf-same;
+      same = λ e. simp (eq-eqb a b e) (refl, refl);
     }
 
 -- every pair of which a contract says `r ≡ lnOf a b` keeps the promise

@@ -12,6 +12,7 @@ use Rattle.logarithm_theory.specs.declared.Scaled.{Scaled}
 use Rattle.logarithm_theory.specs.Promise.{LnDomain}
 use Rattle.logarithm_theory.specs.Evaluation.{Normal, scaledOf, scaledLnOf, lnOf}
 
+-- the powers of 2 are in the order of their exponents
 pub exponent : (i j : ℕ) → 2 ^ i < 2 ^ suc j → i ≤ j
 exponent i j h = elim (decLe i j) [
   | yes t ↦ t
