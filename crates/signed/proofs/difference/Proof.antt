@@ -1,5 +1,5 @@
 -- `difference` meets its contract.
-use mathlib.Core.Path.{refl}
+use mathlib.Core.Path.{_∙_, sym}
 use Prim.Native.Nat.{_-_}
 use native.Mathlib.Omega.{arith}
 use borrow.Author.Needs.{needs}
@@ -19,7 +19,7 @@ below c =
     stored (a .a) (a .b) (omega arith) (omega arith) (opposite (a .a) (a .b) (c .if1 .taken) (omega arith))
 
 above : tie.Need-returns-2
-above c = let a = c .before .args in rw (cast (a .a - a .b) (omega arith), more (a .a) (a .b) (c .if1 .left)) refl
+above c = let a = c .before .args in cast (a .a - a .b) (omega arith) ∙ sym (more (a .a) (a .b) (c .if1 .left))
 
 pub difference-spec : {M : Type 1} → statement M
 difference-spec = tie.close (tie.spec (λ c. search needs) (λ c. search needs) negates below (λ c. search needs) above)
