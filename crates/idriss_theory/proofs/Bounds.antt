@@ -1,10 +1,10 @@
 -- Sizes of the products that the median forms.
-use mathlib.Core.Bool.{Bool, true, false, cond}
 use mathlib.Core.List.{[], _∷_}
 use Prim.Native.Nat.{ℕ, _+_, _*_, _-_, _≤_, min}
 use native.Mathlib.Nat.{mul-le-mul, mul-le-mul-left}
 use native.Mathlib.Omega.{arith}
 use Rattle.toolbox_theory.specs.Lists.{among}
+use Rattle.toolbox_theory.proofs.Tests.{by-test}
 use Rattle.interval_theory.specs.declared.Ends.{Ends}
 use Rattle.interval_theory.specs.Bound.{size, Sized}
 use Rattle.interval_theory.proofs.Bounded.{given, multiple, at-most}
@@ -29,31 +29,21 @@ alpha-small d = omega arith
 
 pub F-small : (mechanism : ℕ) → F mechanism ≤ 1
 unfolding F
-F-small mechanism = go (among (2 ∷ 3 ∷ 4 ∷ []) mechanism)
-  where
-    go : (b : Bool) → cond b 1 0 ≤ 1
-    go true = omega arith
-    go false = omega arith
+F-small mechanism =
+    by-test (among (2 ∷ 3 ∷ 4 ∷ []) mechanism) (λ x. x ≤ 1) (λ _. omega arith) (λ _. omega arith)
 
 module _ {r : Row} {m : ℕ} (l : RowLimits r) (high : m ≤ 790) where
   pub gains-small : (mechanism : ℕ) → gainsOf r m mechanism ≤ exactMost
   unfolding gainsOf
   gains-small mechanism =
-      omega (
-        arith,
-        alpha-small (alpha-domain (l .alpha1-gain) (l .alpha2-gain) (l .alpha3-gain) high),
-        mul-le-mul (l .phi) (F-small mechanism),
-      )
+      let s = alpha-small (alpha-domain (l .alpha1-gain) (l .alpha2-gain) (l .alpha3-gain) high) in
+      omega (arith, mul-le-mul (l .phi) (F-small mechanism))
 
   pub losses-small : {d : ℕ} → d ≤ 17_500 → lossesOf r m d ≤ exactMost
   unfolding lossesOf
   losses-small near =
-      omega (
-        arith,
-        alpha-small (alpha-domain (l .alpha1-loss) (l .alpha2-loss) (l .alpha3-loss) high),
-        mul-le-mul
-            (l .gamma) near,
-      )
+      let s = alpha-small (alpha-domain (l .alpha1-loss) (l .alpha2-loss) (l .alpha3-loss) high) in
+      omega (arith, mul-le-mul (l .gamma) near)
 
 -- β2 M stays below β1, and β1 + β2 M at most 2
 pub record BetaBounds (r : Row) (m : ℕ) : Type 0 where
@@ -62,10 +52,7 @@ pub record BetaBounds (r : Row) (m : ℕ) : Type 0 where
 
 pub beta-bounds : {r : Row} {m : ℕ} → RowLimits r → 450 ≤ m → m ≤ 790 → BetaBounds r m
 unfolding betaOf
-beta-bounds {r} l low high =
-    let p = mul-le-mul-left (r .7) low in
-    let q = mul-le-mul-left (r .7) high in
-    omega arith
+beta-bounds {r} l low high = omega (arith, mul-le-mul-left (r .7) low, mul-le-mul-left (r .7) high)
 
 pub far-domain : {d : ℕ} → d ≤ 17_500 → LnDomain (d + 1_000) 100
 far-domain h = omega arith

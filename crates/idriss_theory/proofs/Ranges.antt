@@ -11,7 +11,7 @@ use borrow.Author.Needs.{needs}
 use lib.Count.{leadingZeros}
 use lib.Dec.{T, leb, leb→le}
 use Rattle.toolbox_theory.specs.Whole.{up, down}
-use Rattle.toolbox_theory.proofs.Tests.{both, allBelow, below}
+use Rattle.toolbox_theory.proofs.Tests.{both, each, allBelow, below}
 use Rattle.exact_theory.specs.Fraction.{_over_}
 use Rattle.interval_theory.specs.declared.Ends.{Ends}
 use Rattle.interval_theory.specs.declared.SignedPair.{SignedPair}
@@ -27,7 +27,6 @@ use Rattle.scenario_theory.specs.Rows.{rowCount}
 use Rattle.idriss_theory.specs.declared.Row as code
 use Rattle.idriss_theory.specs.Tables.{Row, noRow}
 use Rattle.idriss_theory.specs.Rows.{rowAt, parts}
-use Rattle.idriss_theory.specs.Median.{F}
 use Rattle.idriss_theory.specs.Promise.{MedianDomain}
 use Rattle.idriss_theory.specs.Evaluation.{alphaSum, betaOf, gainsOf, lossesOf, vs30Cap, distanceTermOf}
 use Rattle.idriss_theory.specs.Evaluation.{siteTermOf, medianPairBy, medianPairOf}
@@ -44,19 +43,15 @@ farBound = record { width = lnWidth; least = 2_302_000_000; most = 5_221_000_000
 abbrev siteBound : Bound
 siteBound = record { width = lnWidth; least = 6_109_000_000; most = 7_091_000_000 }
 
-farLimits : T (lnBetween 1_000 18_500 100 100 fits farBound)
+limits : T (lnBetween 1_000 18_500 100 100 fits farBound) × T (lnBetween 4_500 vs30Cap 10 10 fits siteBound)
 unfolding lnOf scaledOf scaledLnOf mantissaLnOf nearOneOf coarseAt fineAt leadingZeros
-farLimits = tt
-
-siteLimits : T (lnBetween 4_500 vs30Cap 10 10 fits siteBound)
-unfolding lnOf scaledOf scaledLnOf mantissaLnOf nearOneOf coarseAt fineAt leadingZeros
-siteLimits = tt
+limits = (tt, tt)
 
 far-within : {d : ℕ} → d ≤ 17_500 → Within (lnOf (d + 1_000) 100) farBound
-far-within h = wider (ln-between (search needs)) (fitting farLimits)
+far-within h = wider (ln-between (search needs)) (fitting (limits .0))
 
 site-within : {v : ℕ} → 4_500 ≤ v → Within (lnOf (min v vs30Cap) 10) siteBound
-site-within h = wider (ln-between (search needs)) (fitting siteLimits)
+site-within h = wider (ln-between (search needs)) (fitting (limits .1))
 
 -- ---- terms
 
@@ -81,10 +76,10 @@ under t = (t .loss - t .gain) * t .least
 term-bound : (t : Term) (p q : ℕ) {x : ℕ} → p + t .loss ≤ q + t .gain → t .least ≤ x → x ≤ t .most →
     p * x + under t ≤ q * x + above t
 unfolding above under
-term-bound t p q {x} few from to = go (t .loss - t .gain) (t .gain - t .loss) (omega arith)
-  where
-    go : (u v : ℕ) → p + u ≤ q + v → p * x + u * t .least ≤ q * x + v * t .most
-    go u v h = omega (arith, mul-le-mul-right x h, mul-le-mul-left u from, mul-le-mul-left v to)
+term-bound t p q {x} few from to =
+    let h : p + (t .loss - t .gain) ≤ q + (t .gain - t .loss) = omega arith in
+    let least = mul-le-mul-left (t .loss - t .gain) from in
+    omega (arith, mul-le-mul-right x h, mul-le-mul-left (t .gain - t .loss) to)
 
 own-bound : (t : Term) {x : ℕ} → t .least ≤ x → x ≤ t .most → t .gain * x + under t ≤ t .loss * x + above t
 own-bound t from to = term-bound t (t .gain) (t .loss) (omega arith) from to
@@ -94,39 +89,48 @@ ln-bound : (t : Term) (p q : ℕ) {e : Ends} → p + t .loss ≤ q + t .gain →
     Within e (record { width = lnWidth; least = t .least; most = t .most }) →
     scale * multipleOf p e .high + under t ≤ scale * multipleOf q e .low + above t + lnWidth * p + 2 * scale
 unfolding multipleOf
-ln-bound t p q {e} few w =
-    let to : e .low ≤ t .most = omega arith in
-    omega (arith, mul-le-mul-left p (w .narrow), term-bound t p q few (w .least) to)
+ln-bound t p q few w =
+    omega (arith, mul-le-mul-left p (w .narrow), term-bound t p q few (w .least) (omega arith))
 
 -- ---- the median by a row q less that by a row r, for magnitudes from low to high
 
-module _ (r q : code.Row) (low high : ℕ) where
+-- no end of f is more than t above one of e
+abbrev Rises : ℕ → SignedPair → SignedPair → Type 0
+Rises t e f = f .gain .high + e .loss .high ≤ f .loss .low + e .gain .low + t
+
+module _ (r q : Row) (low high : ℕ) where
+  abbrev a : code.Row
+  a = parts r
+
+  abbrev b : code.Row
+  b = parts q
+
   -- α1 + α2 M + α3 (8.5 − M)²
   abbrev first : Term
-  first = term (q .0 + r .1) (r .0 + q .1) 1 1
+  first = term (b .0 + a .1) (a .0 + b .1) 1 1
 
   abbrev slope : Term
-  slope = term (q .2 + r .3) (r .2 + q .3) low high
+  slope = term (b .2 + a .3) (a .2 + b .3) low high
 
   abbrev bow : Term
-  bow = term (q .4 + r .5) (r .4 + q .5) ((850 - high) * (850 - high)) ((850 - low) * (850 - low))
+  bow = term (b .4 + a .5) (a .4 + b .5) ((850 - high) * (850 - high)) ((850 - low) * (850 - low))
 
   -- what is taken off, r's less q's: (β1 + β2 M) ln(R + 10), with −β2 M in its factor, −ξ ln V and −γ R
   abbrev fall : Term
-  fall = term (q .7) (r .7) low high
+  fall = term (b .7) (a .7) low high
 
   abbrev far : Term
-  far = term (2_000 * r .6 + 20 * above fall) (2_000 * q .6 + 20 * under fall) (farBound .least) (farBound .most)
+  far = term (2_000 * a .6 + 20 * above fall) (2_000 * b .6 + 20 * under fall) (farBound .least) (farBound .most)
 
   abbrev site : Term
-  site = term (20_000 * r .8) (20_000 * q .8) (siteBound .least) (siteBound .most)
+  site = term (20_000 * a .8) (20_000 * b .8) (siteBound .least) (siteBound .most)
 
   abbrev anelastic : Term
-  anelastic = term (r .9) (q .9) 0 17_500
+  anelastic = term (a .9) (b .9) 0 17_500
 
   -- φ F
   abbrev fault : Term
-  fault = term (q .10) (r .10) 0 1
+  fault = term (b .10) (a .10) 0 1
 
   -- a sum over the terms of α, in units, and over all of them, in 1/scale of a unit
   alpha : (Term → ℕ) → ℕ
@@ -135,136 +139,91 @@ module _ (r q : code.Row) (low high : ℕ) where
   abbrev total : (Term → ℕ) → ℕ
   total f = scale * (alpha f + 1_000 * f anelastic + 10_000_000 * f fault) + f far + f site
 
-  -- r's logarithms have their high ends, and both rows' multiples of them are rounded
-  abbrev rounding : ℕ
-  rounding = lnWidth * (40_000_000 + 20_000 * r .8) + 4 * scale
-
-  -- the test: it is at most t units
+  -- the test: it is at most t units. r's logarithms have their high ends, and both rows' multiples of them are rounded
   abbrev atMost : ℕ → Bool
-  atMost t = leb (total above + rounding) (total under + scale * t)
+  atMost t = leb (total above + lnWidth * (40_000_000 + 20_000 * a .8) + 4 * scale) (total under + scale * t)
 
--- no end of f is more than t above one of e
-abbrev Rises : ℕ → SignedPair → SignedPair → Type 0
-Rises t e f = f .gain .high + e .loss .high ≤ f .loss .low + e .gain .low + t
+  module _ {m : ℕ} (from : low ≤ m) (to : m ≤ high) (β : BetaBounds a m) where
+    alpha-bound :
+        alphaSum (b .0) (b .2) (b .4) m + alphaSum (a .1) (a .3) (a .5) m + alpha under ≤
+        alphaSum (a .0) (a .2) (a .4) m + alphaSum (b .1) (b .3) (b .5) m + alpha above
+    unfolding alphaSum alpha
+    alpha-bound =
+        let least : 850 - high ≤ 850 - m = omega arith in
+        let most : 850 - m ≤ 850 - low = omega arith in
+        let square = own-bound bow (mul-le-mul least least) (mul-le-mul most most) in
+        omega (arith, own-bound first {x = 1} (omega arith) (omega arith), own-bound slope from to)
 
-module _ (r q : Row) {low high m d v : ℕ} (mechanism : ℕ) (from : low ≤ m) (to : m ≤ high) (near : d ≤ 17_500)
-    (slow : 4_500 ≤ v) (β : BetaBounds (parts r) m) where
-  abbrev a : code.Row
-  a = parts r
+    beta-few : betaOf a m + far .loss ≤ betaOf b m + far .gain
+    unfolding betaOf
+    beta-few = omega (arith, own-bound fall from to)
 
-  abbrev b : code.Row
-  b = parts q
-
-  alpha-bound :
-      alphaSum (b .0) (b .2) (b .4) m + alphaSum (a .1) (a .3) (a .5) m + alpha a b low high under ≤
-      alphaSum (a .0) (a .2) (a .4) m + alphaSum (b .1) (b .3) (b .5) m + alpha a b low high above
-  unfolding alphaSum alpha
-  alpha-bound =
-      let one : 1 ≤ 1 = omega arith in
-      let least : 850 - high ≤ 850 - m = omega arith in
-      let most : 850 - m ≤ 850 - low = omega arith in
-      omega (
-        arith,
-        own-bound (first a b low high) one one,
-        own-bound (slope a b low high) from to,
-        own-bound (bow a b low high) (mul-le-mul least least) (mul-le-mul most most),
-      )
-
-  beta-few : betaOf a m + far a b low high .loss ≤ betaOf b m + far a b low high .gain
-  unfolding betaOf
-  beta-few = omega (arith, own-bound (fall a b low high) from to)
-
-  rises : (t : ℕ) → T (atMost a b low high t) →
-      Rises t (medianPairOf r m d v mechanism) (medianPairOf q m d v mechanism)
-  unfolding medianPairBy gainsOf lossesOf distanceTermOf siteTermOf sumOf
-  rises t passed =
-      let none : 0 ≤ F mechanism = omega arith in
-      let here : 0 ≤ d = omega arith in
-      omega (
-        arith,
-        leb→le (total a b low high above + rounding a b low high) (total a b low high under + scale * t) passed,
-        alpha-bound,
-        ln-bound (far a b low high) (betaOf a m) (betaOf b m) beta-few (far-within near),
-        ln-bound (site a b low high) (20_000 * a .8) (20_000 * b .8) (omega arith) (site-within slow),
-        own-bound (anelastic a b low high) here near,
-        own-bound (fault a b low high) none (F-small mechanism),
-      )
+    rises : {k d v : ℕ} (mechanism t : ℕ) → MedianDomain k m d v → T (atMost t) →
+        Rises t (medianPairOf r m d v mechanism) (medianPairOf q m d v mechanism)
+    unfolding medianPairBy gainsOf lossesOf distanceTermOf siteTermOf sumOf
+    rises mechanism t h passed =
+        let f = ln-bound far (betaOf a m) (betaOf b m) beta-few (far-within (h .near)) in
+        let s = ln-bound site (20_000 * a .8) (20_000 * b .8) (omega arith) (site-within (h .slow)) in
+        let d = own-bound anelastic (omega arith) (h .near) in
+        omega (arith, leb→le, alpha-bound, own-bound fault (omega arith) (F-small mechanism))
 
 -- ---- the tests of all rows
 
 -- for all magnitudes: those up to 6.75 and those from there on, as over both (8.5 − M)² reaches too far
 abbrev risesAtMost : ℕ → Row → Row → Bool
-risesAtMost t r q = atMost (parts r) (parts q) 450 675 t && atMost (parts r) (parts q) 675 790 t
+risesAtMost t r q = atMost r q 450 675 t && atMost r q 675 790 t
 
--- a row and the row of zeros, both ways round; a row and the next
+-- and both ways round
+abbrev apart : ℕ → ℕ → Row → Row → Bool
+apart t u r q = risesAtMost t r q && risesAtMost u q r
+
+-- a row and the row of zeros; a row and the next
 abbrev ranges : Bool → ℕ → Bool
-ranges isTable3 k =
-    risesAtMost medianLeast (rowAt isTable3 k) noRow && risesAtMost medianMost noRow (rowAt isTable3 k)
+ranges isTable3 k = apart medianLeast medianMost (rowAt isTable3 k) noRow
 
 abbrev steps : Bool → ℕ → Bool
-steps isTable3 k =
-    risesAtMost rowStep (rowAt isTable3 k) (rowAt isTable3 (k + 1)) &&
-    risesAtMost rowStep (rowAt isTable3 (k + 1)) (rowAt isTable3 k)
+steps isTable3 k = apart rowStep rowStep (rowAt isTable3 k) (rowAt isTable3 (k + 1))
 
-all-ranges : (isTable3 : Bool) → T (allBelow rowCount (ranges isTable3))
+all-rows : (isTable3 : Bool) →
+    T (allBelow rowCount (ranges isTable3)) × T (allBelow (rowCount - 1) (steps isTable3))
 unfolding allBelow rowAt up down _over_ above under alpha
-all-ranges true = tt
-all-ranges false = tt
-
-all-steps : (isTable3 : Bool) → T (allBelow (rowCount - 1) (steps isTable3))
-unfolding allBelow rowAt up down _over_ above under alpha
-all-steps true = tt
-all-steps false = tt
+all-rows true = (tt, tt)
+all-rows false = (tt, tt)
 
 -- ---- the laws
 
--- the row of zeros
-beta-none : (m : ℕ) → BetaBounds (parts noRow) m
-unfolding betaOf up down _over_
-beta-none m = omega arith
-
-median-none : (m d v mechanism : ℕ) →
-    let e = medianPairOf noRow m d v mechanism in
-    (e .gain .low ≤ 0) × (e .loss .low ≤ 0)
-unfolding medianPairBy gainsOf lossesOf alphaSum betaOf distanceTermOf siteTermOf multipleOf sumOf up down _over_
-median-none m d v mechanism =
-    let z : betaOf (parts noRow) m ≤ 0 = omega arith in
-    (omega arith, omega (arith, mul-le-mul-right (lnOf (d + 1_000) 100 .low) z))
-
 module _ (isTable3 : Bool) {k m d v : ℕ} (mechanism : ℕ) (h : MedianDomain k m d v) where
-  rises-for : (r q : Row) → BetaBounds (parts r) m → (t : ℕ) → T (risesAtMost t r q) →
-      Rises t (medianPairOf r m d v mechanism) (medianPairOf q m d v mechanism)
-  rises-for r q β t passed =
-      let p = both (atMost (parts r) (parts q) 450 675 t) _ passed in
+  abbrev pair : Row → SignedPair
+  pair r = medianPairOf r m d v mechanism
+
+  rises-for : (t : ℕ) (r q : Row) → BetaBounds (parts r) m → T (risesAtMost t r q) → Rises t (pair r) (pair q)
+  rises-for t r q β passed =
+      let p = both (atMost r q 450 675 t) _ passed in
       elim (decLe m 675) [
-        | yes l ↦ rises r q mechanism (h .magnitude-low) l (h .near) (h .slow) β t (p .0)
-        | no g ↦ rises r q mechanism (omega arith) (h .magnitude-high) (h .near) (h .slow) β t (p .1)
+        | yes l ↦ rises r q 450 675 (h .magnitude-low) l β mechanism t h (p .0)
+        | no g ↦ rises r q 675 790 (omega arith) (h .magnitude-high) β mechanism t h (p .1)
       ]
+
+  near : (t u : ℕ) (r q : Row) → BetaBounds (parts r) m → BetaBounds (parts q) m → T (apart t u r q) →
+      Rises t (pair r) (pair q) × Rises u (pair q) (pair r)
+  near t u r q β γ = each (risesAtMost t r q) (risesAtMost u q r) (rises-for t r q β) (rises-for u q r γ)
 
   beta-for : (j : ℕ) → j < rowCount → BetaBounds (parts (rowAt isTable3 j)) m
   beta-for j l = beta-bounds (row-limits isTable3 j l .sizes) (h .magnitude-low) (h .magnitude-high)
 
+  -- the median by the row of zeros is 0
   pub medianPairOf-ranges : MedianRanges isTable3 k m d v mechanism
+  unfolding medianPairBy gainsOf lossesOf alphaSum betaOf distanceTermOf siteTermOf multipleOf sumOf up down _over_
   medianPairOf-ranges =
-      let r = rowAt isTable3 k in
-      let t = below rowCount (ranges isTable3) (all-ranges isTable3) k (h .row) in
-      let p = both (risesAtMost medianLeast r noRow) _ t in
-      let none = median-none m d v mechanism in
-      record {
-        least = omega (arith, rises-for r noRow (beta-for k (h .row)) medianLeast (p .0));
-        most = omega (arith, rises-for noRow r (beta-none m) medianMost (p .1));
-      }
+      let t = below rowCount (ranges isTable3) (all-rows isTable3 .0) k (h .row) in
+      let p = near medianLeast medianMost (rowAt isTable3 k) noRow (beta-for k (h .row)) (omega arith) t in
+      let z : betaOf (parts noRow) m ≤ 0 = omega arith in
+      omega (arith, mul-le-mul-right (lnOf (d + 1_000) 100 .low) z)
 
 pub rows-near : (isTable3 : Bool) (k : ℕ) {m d v : ℕ} (mechanism : ℕ) → MedianDomain (k + 1) m d v →
     RowsNear isTable3 k m d v mechanism
 rows-near isTable3 k mechanism h =
-    let r = rowAt isTable3 k in
-    let q = rowAt isTable3 (k + 1) in
-    let t = below (rowCount - 1) (steps isTable3) (all-steps isTable3) k (omega arith) in
-    let p = both (risesAtMost rowStep r q) _ t in
     let β = beta-for isTable3 mechanism h in
-    let rise = rises-for isTable3 mechanism h in
-    record {
-      above = rise r q (β k (omega arith)) rowStep (p .0);
-      below = rise q r (β (k + 1) (h .row)) rowStep (p .1);
-    }
+    let t = below (rowCount - 1) (steps isTable3) (all-rows isTable3 .1) k (omega arith) in
+    let p = near isTable3 mechanism h rowStep rowStep _ _ (β k (omega arith)) (β (k + 1) (h .row)) t in
+    record { above = p .0; below = p .1 }

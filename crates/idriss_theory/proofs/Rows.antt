@@ -4,12 +4,11 @@ use mathlib.Core.Path.{_≡_, refl}
 use mathlib.Core.Bool.{Bool, true, false, false≢true, cond}
 use mathlib.Core.List.{List, [], _∷_, map}
 use Prim.Native.Nat.{ℕ, _+_, _*_, _<_}
-use borrow.Author.Tests.{eqb-true}
 use borrow.Author.Needs.{needs}
-use lib.Dec.{eqb}
+use lib.Dec.{eqb, eqb→eq}
 use Rattle.toolbox_theory.specs.Whole.{up, down}
 use Rattle.toolbox_theory.specs.Lists.{among, lookup}
-use Rattle.toolbox_theory.proofs.Tests.{AllLe, equal, WithinLimits, row-within}
+use Rattle.toolbox_theory.proofs.Tests.{by-test, AllLe, equal, row-within}
 use Rattle.toolbox_theory.proofs.ListLaws.{lookup-at, lookup-key}
 use Rattle.exact_theory.specs.Fraction.{_over_}
 use Rattle.scenario_theory.specs.Refusal.{idriss}
@@ -33,15 +32,10 @@ limits r =
 in-order : (r : Row) → AllLe (limits r) → TableLimits r
 in-order r h = search needs
 
-tables-within : (isTable3 : Bool) → WithinLimits limits (cond isTable3 table3 table2)
-unfolding up down _over_
-tables-within true = tt
-tables-within false = tt
-
 pub row-limits : (isTable3 : Bool) (k : ℕ) → k < rowCount → TableLimits (rowAt isTable3 k)
-unfolding rowAt
-row-limits true k h = in-order _ (row-within limits _ table3 (tables-within true) k h)
-row-limits false k h = in-order _ (row-within limits _ table2 (tables-within false) k h)
+unfolding rowAt up down _over_
+row-limits true k h = in-order _ (row-within limits _ table3 tt k h)
+row-limits false k h = in-order _ (row-within limits _ table2 tt k h)
 
 -- ---- the row for a period is the one that is printed with it
 
@@ -50,11 +44,8 @@ periods-printed true = refl
 periods-printed false = refl
 
 own-tabled : (period : ℕ) → among (idriss .periods) period ≡ true → rowPeriod period ≡ period
-own-tabled period e = go (eqb period 0) refl
-  where
-    go : (b : Bool) → eqb period 0 ≡ b → cond b 10 period ≡ period
-    go true q = absurd (false≢true (rw (eqb-true period 0 q) at e))
-    go false q = refl
+own-tabled period e =
+    by-test (eqb period 0) (λ t. t ≡ period) (λ z. absurd (false≢true (rw (eqb→eq period 0 z) at e))) (λ z. refl)
 
 pub row-printed : (magnitude period : ℕ) → among (idriss .periods) period ≡ true →
     rowFor magnitude period .period ≡ period
@@ -67,11 +58,8 @@ row-printed magnitude period e =
 -- "Period 0 uses the row 0.01"
 pub peak-printed : (magnitude : ℕ) → rowFor magnitude 0 .period ≡ 10
 unfolding rowFor
-peak-printed magnitude = go (takesTable3 magnitude)
-  where
-    go : (b : Bool) → lookup (λ r. r .period) noRow (cond b table3 table2) 10 .period ≡ 10
-    go true = refl
-    go false = refl
+peak-printed magnitude =
+    by-test (takesTable3 magnitude) (λ l. lookup (λ r. r .period) noRow l 10 .period ≡ 10) (λ _. refl) (λ _. refl)
 
 -- ---- and the one in the place that the code looks up
 
