@@ -44,15 +44,9 @@ within m s e =
     let magnitude = not-beyond (m .magnitude) (s .magnitude) (not-when 1 _ (two .0)) in
     let distance = not-beyond (m .distance) (s .distance) (not-when 2 _ (three .0)) in
     let velocity = not-beyond (m .velocity) (s .velocity) (not-when 3 _ (four .0)) in
-    record {
-      magnitude-low = magnitude .0;
-      magnitude-high = magnitude .1;
-      distance-high = distance .1;
-      velocity-low = velocity .0;
-      velocity-high = velocity .1;
-      mechanism = not-false _ (not-when 4 _ (five .0));
-      period = not-false _ (not-when 5 _ (five .1));
-    }
+    let mechanism = not-false (among (m .mechanisms) (s .mechanism)) (not-when 4 _ (five .0)) in
+    let period = not-false (among (0 ∷ m .periods) (s .period)) (not-when 5 _ (five .1)) in
+    search needs
 
 -- its model is 1 or 2
 pub of-model : (s : Scenario) → refusalOf s ≡ 0 →
@@ -82,25 +76,17 @@ pub record Sizes (s : Scenario) : Type 0 where
   pub mechanism : s .mechanism ≤ 9
   pub period : s .period ≤ 10_000
 
--- no limit of a model is
-abbrev Small : Limits → Type 0
-Small m =
-    (m .magnitude .high ≤ 800) × ((m .distance .high ≤ 19_999) × ((m .velocity .high ≤ 20_000) ×
-    (T (upTo 9 (m .mechanisms)) × T (upTo 10_000 (0 ∷ m .periods)))))
-
-sizes-by : (m : Limits) (s : Scenario) → Small m → s .model ≤ 2 → Within m s → Sizes s
-sizes-by m s h k w =
-    record {
-      model = k;
-      magnitude = omega arith;
-      distance = omega arith;
-      velocity = omega arith;
-      mechanism = at-most 9 (m .mechanisms) (s .mechanism) (h .1 .1 .1 .0) (w .mechanism);
-      period = at-most 10_000 (0 ∷ m .periods) (s .period) (h .1 .1 .1 .1) (w .period);
-    }
+-- as no limit of a model is
+sizes-by : (m : Limits) (s : Scenario) →
+    (m .magnitude .high ≤ 800) × (m .distance .high ≤ 19_999) × (m .velocity .high ≤ 20_000) →
+    T (upTo 9 (m .mechanisms)) → T (upTo 10_000 (0 ∷ m .periods)) → s .model ≤ 2 → Within m s → Sizes s
+sizes-by m s h codes periods k w =
+    let mechanism = at-most 9 (m .mechanisms) (s .mechanism) codes (w .mechanism) in
+    let period = at-most 10_000 (0 ∷ m .periods) (s .period) periods (w .period) in
+    omega arith
 
 pub sizes : (s : Scenario) → refusalOf s ≡ 0 → Sizes s
 sizes s e = elim (of-model s e) [
-  | inl p ↦ sizes-by idriss s (search needs, (search needs, (search needs, (tt, tt)))) (omega arith) (p .1)
-  | inr p ↦ sizes-by booreAtkinson s (search needs, (search needs, (search needs, (tt, tt)))) (omega arith) (p .1)
+  | inl p ↦ sizes-by idriss s (omega arith) tt tt (omega arith) (p .1)
+  | inr p ↦ sizes-by booreAtkinson s (omega arith) tt tt (omega arith) (p .1)
 ]

@@ -1,42 +1,27 @@
 -- `boore_atkinson_check` meets its contract.
-use mathlib.Core.Path.{refl}
+use mathlib.Core.Path.{_≡_, refl, _∙_}
 use borrow.Author.Needs.{needs}
 use Rattle.scenario_theory.specs.Refusal.{booreAtkinson}
-use Rattle.scenario_theory.specs.Rows.{booreAtkinsonRow}
-use Rattle.scenario_theory.proofs.RowLaws.{boore-atkinson-placed, earlier-check, last-check}
+use Rattle.scenario_theory.proofs.RowLaws.{boore-atkinson-placed, numberBefore, earlier-check, last-check}
 use Rattle.scenario.proofs.boore_atkinson_check.Statement.{statement}
 use Rattle.scenario.proofs.boore_atkinson_check.Tie as tie
 
-earlier : tie.Need-returns
-earlier c =
-    let k = c .before in
-    let five = k .before in
-    let four = five .before in
-    let three = four .before in
-    let two = three .before in
-    let s = two .before .args .s in
-    let placed = boore-atkinson-placed (s .period) refl in
-    earlier-check booreAtkinson booreAtkinsonRow s placed (k .first .ensures) (two .outside .ensures)
-    (three .outside2 .ensures) (four .outside3 .ensures) (five .unknown .ensures) (c .if1 .taken)
-
-last : tie.Need-returns-2
-last c =
-    let place = c .before in
-    let if = place .before in
-    let k = if .before in
-    let five = k .before in
-    let four = five .before in
-    let three = four .before in
-    let two = three .before in
-    let s = two .before .args .s in
-    let placed = boore-atkinson-placed (s .period) (place .boore-atkinson-place .ensures) in
-    last-check booreAtkinson booreAtkinsonRow s placed (k .first .ensures) (two .outside .ensures)
-    (three .outside2 .ensures) (four .outside3 .ensures) (five .unknown .ensures)
-    (if .if1 .left) (c .last .ensures)
+first-is : (c : tie.After-first) →
+    c .first .result ≡ numberBefore booreAtkinson (c .before .before .before .before .before .args .s)
+first-is c =
+    let four = c .before .before in
+    let two = four .before .before in
+    c .first .ensures ∙
+    rw (c .before .unknown .ensures, four .outside3 .ensures, four .before .outside2 .ensures, two .outside .ensures)
 
 pub boore-atkinson-check-spec : {M : Type 1} → statement M
 boore-atkinson-check-spec =
     tie.close
     (tie.spec
     (λ c κs. search needs) (λ c κs. search needs) (λ c κs. search needs) (λ c κs. search needs) (λ c κs. search needs)
-    earlier (λ c κs. search needs) (λ c κs. search needs) last)
+    (λ c. earlier-check booreAtkinson _ _ (boore-atkinson-placed _ refl) (first-is (c .before)) (c .if1 .taken))
+    (λ c κs. search needs) (λ c κs. search needs)
+    (λ c.
+    let k = c .before .before in
+    last-check booreAtkinson _ _ (boore-atkinson-placed _ (c .before .boore-atkinson-place .ensures))
+    (first-is (k .before)) (k .if1 .left) (c .last .ensures)))

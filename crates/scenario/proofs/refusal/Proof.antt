@@ -5,11 +5,10 @@ use Rattle.scenario_theory.proofs.RowLaws.{passed, failed}
 use Rattle.scenario.proofs.refusal.Statement.{statement}
 use Rattle.scenario.proofs.refusal.Tie as tie
 
-accepted : tie.Need-returns
-accepted c = sym (passed _ (sym (c .before .before .check .ensures) ∙ c .enum-told .given .1) .accepted)
-
-refused : tie.Need-returns-2
-refused c = failed _ (sym (c .before .before .before .check .ensures) ∙ c .before .k .given .1) .number
-
 pub refusal-spec : {M : Type 1} → statement M
-refusal-spec = tie.close (tie.spec (λ c κs. search needs) (λ c. search needs) (λ c. search needs) accepted refused)
+refusal-spec =
+    tie.close
+    (tie.spec
+    (λ c κs. search needs) (λ c. search needs) (λ c. search needs)
+    (λ c. sym (passed _ (sym (c .before .before .check .ensures) ∙ c .enum-told .given .1) .accepted))
+    (λ c. failed _ (sym (c .before .before .before .check .ensures) ∙ c .before .k .given .1) .number))

@@ -1,13 +1,15 @@
 -- `unknown` meets its contract.
-use mathlib.Core.Path.{_≡_, refl}
-use mathlib.Core.Bool.{false, not, or-false}
+use mathlib.Core.Path.{_≡_}
+use mathlib.Core.Bool.{false, or-false}
 use mathlib.Core.List.{[], _∷_}
-use Prim.Native.Nat.{ℕ, zero, suc, _≤_}
+use Prim.Native.Nat.{ℕ, _≤_}
 use native.Mathlib.Omega.{arith}
 use borrow.Author.Needs.{needs}
-use borrow.Author.Tests.{ne-eqb}
-use lib.Dec.{eqb, ltb}
+use borrow.Author.Tests.{ne-eqb, le-ltb}
+use lib.Dec.{eqb}
+use lib.Ieee.Bits.{is-true}
 use Rattle.toolbox_theory.specs.Lists.{among}
+use Rattle.toolbox_theory.proofs.Tests.{allBelow, below}
 use Rattle.scenario.proofs.unknown.Statement.{statement}
 use Rattle.scenario.proofs.unknown.Tie as tie
 
@@ -17,12 +19,13 @@ above c =
     let no : (k : ℕ) → k ≤ 3 → eqb x k ≡ false = λ k h. ne-eqb x k (λ e. omega arith) in
     simp (no 0 (search needs), no 1 (search needs), no 2 (search needs), no 3 (search needs), or-false)
 
-below : (x other : ℕ) → x ≤ 3 → ltb 3 x ≡ not (among (0 ∷ 1 ∷ 2 ∷ 3 ∷ other ∷ []) x)
-below zero other h = refl
-below (suc zero) other h = refl
-below (suc (suc zero)) other h = refl
-below (suc (suc (suc zero))) other h = refl
-below (suc (suc (suc (suc x)))) other h = absurd (omega arith)
+-- a code up to 3 is among them, whatever the other is
+up-to : tie.Need-returns-2
+unfolding allBelow
+up-to c =
+    let a = c .before .args in
+    let known = among (0 ∷ 1 ∷ 2 ∷ 3 ∷ a .other ∷ []) in
+    simp (le-ltb _ _ (c .if1 .left), is-true (known (a .code)) (below 4 known tt (a .code) (search needs)))
 
 pub unknown-spec : {M : Type 1} → statement M
-unknown-spec = tie.close (tie.spec above (λ c. below (c .before .args .code) (c .before .args .other) (c .if1 .left)))
+unknown-spec = tie.close (tie.spec above up-to)
