@@ -6,13 +6,10 @@ use Rattle.idriss_theory.specs.Evaluation.{alphaSum}
 use Rattle.idriss.proofs.alpha_sum.Statement.{statement}
 use Rattle.idriss.proofs.alpha_sum.Tie as tie
 
-returns : tie.Need-returns
-unfolding alphaSum
-returns c = (refl, omega arith)
-
 pub alpha-sum-spec : {M : Type 1} → statement M
+unfolding alphaSum
 alpha-sum-spec =
     tie.close
     (tie.spec
     (λ c. search needs) (λ c. search needs) (λ c. search needs) (λ c. search needs) (λ c. search needs)
-    (λ c. search needs) (λ c. search needs) (λ c. search needs) (λ c. search needs) returns)
+    (λ c. search needs) (λ c. search needs) (λ c. search needs) (λ c. search needs) (λ c. (refl, omega arith)))

@@ -1,4 +1,5 @@
 -- `distance_ln` meets its contract.
+use mathlib.Core.Path.{refl}
 use borrow.Author.Needs.{needs}
 use Rattle.logarithm_theory.proofs.Bounds.{ln-sized}
 use Rattle.idriss_theory.proofs.Bounds.{far-domain}
@@ -10,6 +11,4 @@ distance-ln-spec =
     tie.close
     (tie.spec
     (λ c. search needs) (λ c κs. search needs)
-    (λ c.
-    let e = c .ln-hundredths .ensures .0 in
-    (e, rw e (ln-sized (far-domain (c .before .pre))))))
+    (λ c. rw (c .ln-hundredths .ensures .0) (refl, ln-sized (far-domain (c .before .pre)))))

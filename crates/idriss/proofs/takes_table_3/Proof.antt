@@ -4,9 +4,6 @@ use Rattle.idriss_theory.specs.Tables.{takesTable3}
 use Rattle.idriss.proofs.takes_table_3.Statement.{statement}
 use Rattle.idriss.proofs.takes_table_3.Tie as tie
 
-returns : tie.Need-returns
-unfolding takesTable3
-returns c = refl
-
 pub takes-table-3-spec : {M : Type 1} → statement M
-takes-table-3-spec = tie.close (tie.spec returns)
+unfolding takesTable3
+takes-table-3-spec = tie.close (tie.spec (λ c. refl))

@@ -1,7 +1,6 @@
 -- `vs30_ln` meets its contract.
-use mathlib.Core.Path.{_∙_, ap}
+use mathlib.Core.Path.{refl}
 use borrow.Author.Needs.{needs}
-use Rattle.logarithm_theory.specs.Evaluation.{lnOf}
 use Rattle.logarithm_theory.proofs.Bounds.{ln-sized}
 use Rattle.idriss_theory.proofs.Bounds.{site-domain}
 use Rattle.idriss.proofs.vs30_ln.Statement.{statement}
@@ -12,6 +11,4 @@ vs30-ln-spec =
     tie.close
     (tie.spec
     (λ c κs. search needs) (λ c κs. search needs)
-    (λ c.
-    let e = c .ln .ensures .0 ∙ ap (λ v. lnOf v 10) (c .before .min .ensures) in
-    (e, rw e (ln-sized (site-domain (c .before .before .pre))))))
+    (λ c. rw (c .ln .ensures .0, c .before .min .ensures) (refl, ln-sized (site-domain (c .before .before .pre)))))
