@@ -4,17 +4,12 @@ use Rattle.record_theory.proofs.FieldLaws.{absent-written-is}
 use Rattle.record_reading.proofs.absent_written.Statement.{statement}
 use Rattle.record_reading.proofs.absent_written.Tie as tie
 
-returns : tie.Need-returns
-returns c =
-    let period = c .before in
-    let mechanism = period .before .before in
-    let velocity = mechanism .before .before in
-    let a = velocity .before .before .args in
-    absent-written-is (a .m) (a .x) (c .any .ensures) (velocity .both .ensures) (mechanism .both2 .ensures)
-    (period .both3 .ensures)
-
 pub absent-written-spec : {M : Type 1} → statement M
 absent-written-spec =
     tie.close
     (tie.spec
-    (λ c κs. search needs) (λ c κs. search needs) (λ c κs. search needs) (λ c κs. search needs) returns)
+    (λ c κs. search needs) (λ c κs. search needs) (λ c κs. search needs) (λ c κs. search needs)
+    (λ c.
+    let mechanism = c .before .before .before in
+    absent-written-is _ _ (c .any .ensures) (mechanism .before .before .both .ensures) (mechanism .both2 .ensures)
+    (c .before .both3 .ensures)))

@@ -1,33 +1,28 @@
 -- `fields` meets its contract.
+use mathlib.Core.Bool.{cond}
+use mathlib.Core.List.{List}
+use Prim.Native.Nat.{ℕ, _+_, _≤_}
 use native.Mathlib.Omega.{arith}
 use borrow.Author.Needs.{needs}
-use Rattle.record_theory.proofs.FieldLaws.{length-is, scenario-is}
+use lib.ListN.{length}
+use Rattle.record_theory.specs.Layout.{stands}
+use Rattle.record_theory.specs.Outcome.{mapIn}
+use Rattle.record_theory.specs.Steps.{Complete}
+use Rattle.record_theory.proofs.FieldLaws.{periodAt, length-is, scenario-is}
 use Rattle.record_reading.proofs.fields.Statement.{statement}
 use Rattle.record_reading.proofs.fields.Tie as tie
 
-mechanism : tie.Need-byte-or-requires
-mechanism c κs =
-    let start = c .before .before .before .before .before .before .before .before in
-    omega (arith, length-is _ (start .pre .passes))
-
-period : tie.Need-word-or-requires-2
-period c κs =
-    let start = c .before .before .before .before .before .before .before .before .before in
-    omega (arith, length-is _ (start .pre .passes))
-
-returns : tie.Need-returns
-returns c =
-    let start = c .before .before .before .before .before .before .before .before .before .before in
-    cc (scenario-is (start .args .s .now) (start .pre .passes))
+-- there are bytes for every field
+room : (s : List ℕ) → Complete s → periodAt (mapIn s) + cond (stands 5 (mapIn s)) 2 0 ≤ length s
+room s h = omega (arith, length-is (mapIn s) (h .passes))
 
 pub fields-spec : {M : Type 1} → statement M
 fields-spec =
     tie.close
     (tie.spec
-    (λ c. omega (arith, length-is _ (c .before .before .pre .passes)))
-    (λ c κs. search needs) (λ c κs. omega arith)
-    (λ c κs. omega (arith, length-is _ (c .before .before .before .before .pre .passes)))
-    (λ c κs. omega (arith, length-is _ (c .before .before .before .before .before .pre .passes)))
-    (λ c κs. omega (arith, length-is _ (c .before .before .before .before .before .before .pre .passes)))
-    (λ c κs. omega (arith, length-is _ (c .before .before .before .before .before .before .before .pre .passes)))
-    mechanism period returns)
+    (λ c. omega (arith, room)) (λ c κs. search needs) (λ c κs. omega arith) (λ c κs. omega (arith, room))
+    (λ c κs. omega (arith, room)) (λ c κs. omega (arith, room)) (λ c κs. omega (arith, room))
+    (λ c κs. omega (arith, room)) (λ c κs. omega (arith, room))
+    (λ c.
+    let start = c .before .before .before .before .before .before .before .before .before .before in
+    cc (scenario-is (start .args .s .now) (start .pre .passes))))

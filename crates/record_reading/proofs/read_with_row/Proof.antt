@@ -1,76 +1,55 @@
 -- `read_with_row` meets its contract.
-use mathlib.Core.Path.{_≡_, sym, ap, _∙_}
-use mathlib.Core.List.{List}
-use Prim.Native.Nat.{ℕ}
+use mathlib.Core.Path.{_≡_, sym, _∙_}
 use native.Mathlib.Omega.{arith}
 use borrow.Author.Needs.{needs}
 use Rattle.record_theory.specs.declared.RowReading.{RowReading}
 use Rattle.record_theory.specs.Layout.{Bytes}
-use Rattle.record_theory.specs.Outcome.{mapIn, ReadPromise}
-use Rattle.record_theory.specs.Steps.{fieldCheck, rowReadingOf, rowless}
+use Rattle.record_theory.specs.Outcome.{mapIn, scenarioIn, ReadPromise}
+use Rattle.record_theory.specs.Steps.{frontRefusal, fieldCheck, rowReadingOf, rowless}
 use Rattle.record_theory.proofs.FieldLaws.{length-is}
 use Rattle.record_theory.proofs.ReadingLaws.{front-passes, refused-front, refused-fields, is-read, read-of}
 use Rattle.record_reading.proofs.read_with_row.Statement.{statement}
 use Rattle.record_reading.proofs.read_with_row.Tie as tie
 
--- the elements of a slice of u8 are bytes
-are-bytes : (c : tie.After-shared-slice-known) → Bytes (c .before .args .s .now)
-are-bytes c i = omega (arith, c .shared-slice-known .given i)
+-- the promise is that of the reading; the elements of a slice of u8 are bytes
+promised : (c : tie.After-shared-slice-known) {r : RowReading} →
+    let s = c .before .args .s .now in
+    r ≡ rowReadingOf s → (r ≡ rowReadingOf s) × (ReadPromise s (rowless r) × Bytes s)
+promised c e = (e, (read-of _ (sym e) .1, λ i. omega (arith, c .shared-slice-known .given i)))
 
--- the promise is that of the reading
-promised : {s : List ℕ} {r : RowReading} → r ≡ rowReadingOf s → Bytes s →
-    (r ≡ rowReadingOf s) × (ReadPromise s (rowless r) × Bytes s)
-promised {s} e b = (e, (read-of s (sym e) .1, b))
+-- the checks of the front pass
+front : (c : tie.Else1) → frontRefusal (c .before .before .before .args .s .now) ≡ 0
+front c = sym (c .before .front-refusal .ensures) ∙ c .if1 .left
 
-front-refused : tie.Need-returns
-front-refused c =
-    let f = c .before in
-    let k = f .front-refusal in
-    promised (refused-front _ (k .result) (k .ensures) (c .if1 .taken)) (are-bytes (f .before))
-
-some : tie.Need-shared-slice-read-m
-some c =
-    let k = c .before .before .front-refusal in
-    let f = front-passes _ (sym (k .ensures) ∙ c .before .if1 .left) in
-    omega (arith, length-is _ (f .passes))
-
-fields-stand : tie.Need-fields-requires
-fields-stand c κs =
-    front-passes _ (sym (c .before .before .front-refusal .ensures) ∙ c .before .if1 .left)
-
-map-passes : tie.Need-record-length-requires
-map-passes c κs =
-    let e = c .before .before .before .before .before .before in
-    front-passes _ (sym (e .before .front-refusal .ensures) ∙ e .if1 .left) .passes
+-- and what those of the fields come to
+checked : (c : tie.After-field-check) →
+    let s = c .before .before .before .before .before .before .args .s .now in
+    fieldCheck (mapIn s) (scenarioIn s) ≡ c .field-check .result
+checked c = sym (rw (c .before .fields .ensures) at (c .field-check .ensures))
 
 read : tie.Need-returns-2
 read c =
     let told = c .before .before in
     let k = told .before .before in
-    let x = k .before in
-    let e = x .before .before in
-    let s = e .before .before .before .args .s .now in
-    let front = sym (e .before .front-refusal .ensures) ∙ e .if1 .left in
-    let checked =
-    ap (fieldCheck (mapIn s)) (sym (x .fields .ensures)) ∙ (sym (k .field-check .ensures) ∙ told .c .given .1) in
-    promised (rw (x .fields .ensures, c .record-length .ensures) (is-read s front checked))
-    (are-bytes (e .before .before))
+    let e = k .before .before .before in
+    promised (e .before .before)
+    (rw (k .before .fields .ensures, c .record-length .ensures) (is-read _ (front e) (checked k ∙ told .c .given .1)))
 
 fields-refused : tie.Need-returns-3
 fields-refused c =
     let told = c .before in
     let k = told .before .before in
-    let x = k .before in
-    let e = x .before .before in
-    let s = e .before .before .before .args .s .now in
-    let front = sym (e .before .front-refusal .ensures) ∙ e .if1 .left in
-    let checked =
-    ap (fieldCheck (mapIn s)) (sym (x .fields .ensures)) ∙ (sym (k .field-check .ensures) ∙ told .c2 .given .1) in
-    promised (refused-fields s front checked) (are-bytes (e .before .before))
+    let e = k .before .before .before in
+    promised (e .before .before) (refused-fields _ (front e) (checked k ∙ told .c2 .given .1))
 
 pub read-with-row-spec : {M : Type 1} → statement M
 read-with-row-spec =
     tie.close
     (tie.spec
-    (λ c κs. search needs) front-refused some fields-stand (λ c κs. search needs) (λ c. search needs) map-passes
+    (λ c κs. search needs)
+    (λ c. promised (c .before .before) (refused-front _ _ (c .before .front-refusal .ensures) (c .if1 .taken)))
+    (λ c. let f = front-passes _ (front (c .before)) in omega (arith, length-is _ (f .passes)))
+    (λ c κs. front-passes _ (front (c .before)))
+    (λ c κs. search needs) (λ c. search needs)
+    (λ c κs. front-passes _ (front (c .before .before .before .before .before .before)) .passes)
     (λ c. search needs) read fields-refused)
