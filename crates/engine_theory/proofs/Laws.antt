@@ -1,6 +1,6 @@
 -- The promise of an answer, for every scenario, whatever number of a check it is by: demand 3.
 use mathlib.Core.Path.{_≡_, refl, ap, _∙_}
-use mathlib.Core.Logic.{inl, inr}
+use mathlib.Core.Logic.{⊎-elim}
 use Prim.Native.Nat.{ℕ, zero, suc, _≤_}
 use native.Mathlib.Omega.{arith}
 use lib.IntN.{ℤ, pos, _+ℤ_}
@@ -16,15 +16,12 @@ use Rattle.scenario_theory.specs.Rows.{checkOf}
 use Rattle.scenario_theory.proofs.RefusalLaws.{Within, of-model}
 use Rattle.scenario_theory.proofs.CheckLaws.{is-refused}
 use Rattle.scenario_theory.proofs.RowLaws.{idriss-row, boore-atkinson-row, passed, failed}
-use Rattle.idriss_theory.specs.Tables.{takesTable3, rowFor as idrissRowFor}
-use Rattle.idriss_theory.specs.Evaluation.{medianOf as idrissMedianOf}
+use Rattle.idriss_theory.specs.Tables.{takesTable3}
 use Rattle.idriss_theory.specs.Promise as idrissPromise
 use Rattle.idriss_theory.proofs.Rows.{row-at as idriss-row-at}
 use Rattle.idriss_theory.proofs.Accepted.{median-domain as idriss-median-domain, sigma-domain}
 use Rattle.idriss_theory.proofs.Laws.{medianOf-promise as idriss-median-promise}
 use Rattle.idriss_theory.proofs.SigmaLaws.{sigmaOf-promise as idriss-sigma-promise}
-use Rattle.boore_atkinson_theory.specs.Tables.{rowFor as booreAtkinsonRowFor, totalFor as booreAtkinsonTotalFor}
-use Rattle.boore_atkinson_theory.specs.Evaluation.{medianOf as booreAtkinsonMedianOf, sigmaOf as booreAtkinsonSigmaOf}
 use Rattle.boore_atkinson_theory.specs.Promise as booreAtkinsonPromise
 use Rattle.boore_atkinson_theory.proofs.Rows.{row-at as boore-atkinson-row-at, total-at as boore-atkinson-total-at}
 use Rattle.boore_atkinson_theory.proofs.Accepted.{median-domain as boore-atkinson-median-domain}
@@ -54,27 +51,21 @@ pub record Sound (s : Scenario) (e : Enclosure) : Type 0 where
 -- ends that are at most v units apart are at most w
 within : {f : Formula} {e : SignedEnds} (v w : ℕ) → v ≤ w → Encloses (ends (e .low) (e .high)) f →
     e .high ≤ℤ (e .low +ℤ pos v) → EnclosedWithin w f (e .low) (e .high)
-within {e = e} v w more h narrow =
-    record { encloses = h; narrow = within-more (e .high) (e .low) v w more narrow }
+within {e = e} v w more h narrow = record { encloses = h; narrow = within-more _ (e .low) v w more narrow }
 
 -- and equal ends are
 at-most-above : (z : ℤ) (w : ℕ) → z ≤ℤ (z +ℤ pos w)
 unfolding up down
 at-most-above z w = ≤ℤ-in (omega (arith, add-is z (pos w)))
 
-module _ (s : Scenario) (w : Within idriss s) where
-  idriss-median : idrissPromise.MedianEnds (idrissRowFor (s .magnitude) (s .period)) (s .magnitude) (s .distance)
-      (s .velocity) (s .mechanism)
-      (idrissMedianOf (idrissRowFor (s .magnitude) (s .period)) (s .magnitude) (s .distance) (s .velocity)
-      (s .mechanism))
-  idriss-median =
-      rw (idriss-row-at (s .magnitude) (s .period)) (idriss-median-promise (takesTable3 (s .magnitude)) (s .mechanism)
-      (idriss-median-domain s (idriss-row (s .period) (w .period)) w))
-
-  idriss-sound : s .model ≡ 1 → Sound s (enclosureOf s)
+module _ (s : Scenario) where
+  idriss-sound : (s .model ≡ 1) × Within idriss s → Sound s (enclosureOf s)
   unfolding enclosureOf median sigma medianWidth sigmaWidth
-  idriss-sound model =
-      let m = idriss-median in
+  idriss-sound (model, w) =
+      let d = idriss-median-domain s (idriss-row (s .period) (w .period)) w in
+      let m =
+      rw (← idriss-row-at (s .magnitude) (s .period)) at
+      (idriss-median-promise (takesTable3 (s .magnitude)) (s .mechanism) d) in
       let g = idriss-sigma-promise (s .period) (s .magnitude) (sigma-domain s w) in
       rw model (record {
         median-enclosed = within idrissPromise.medianWidth idrissWidth (omega arith) (m .encloses) (m .narrow);
@@ -82,26 +73,14 @@ module _ (s : Scenario) (w : Within idriss s) where
         small = record { median = m .small; sigma = g .small };
       })
 
-module _ (s : Scenario) (w : Within booreAtkinson s) where
-  boore-atkinson-median : booreAtkinsonPromise.MedianEnds (booreAtkinsonRowFor (s .period)) (s .magnitude)
-      (s .distance) (s .velocity) (s .mechanism)
-      (booreAtkinsonMedianOf (booreAtkinsonRowFor (s .period)) (s .magnitude) (s .distance) (s .velocity)
-      (s .mechanism))
-  boore-atkinson-median =
-      rw (boore-atkinson-row-at (s .period)) (boore-atkinson-median-promise (s .mechanism)
-      (boore-atkinson-median-domain s (boore-atkinson-row (s .period) (w .period)) w))
-
-  boore-atkinson-sigma : booreAtkinsonPromise.SigmaEnds (booreAtkinsonTotalFor (s .period)) (s .mechanism)
-      (booreAtkinsonSigmaOf (booreAtkinsonTotalFor (s .period)) (s .mechanism))
-  boore-atkinson-sigma =
-      rw (boore-atkinson-total-at (s .period))
-      (boore-atkinson-sigma-promise _ (s .mechanism) (boore-atkinson-row (s .period) (w .period)))
-
-  boore-atkinson-sound : s .model ≡ 2 → Sound s (enclosureOf s)
+  boore-atkinson-sound : (s .model ≡ 2) × Within booreAtkinson s → Sound s (enclosureOf s)
   unfolding enclosureOf median sigma medianWidth sigmaWidth
-  boore-atkinson-sound model =
-      let m = boore-atkinson-median in
-      let g = boore-atkinson-sigma in
+  boore-atkinson-sound (model, w) =
+      let row = boore-atkinson-row (s .period) (w .period) in
+      let m =
+      rw (← boore-atkinson-row-at (s .period)) at
+      (boore-atkinson-median-promise (s .mechanism) (boore-atkinson-median-domain s row w)) in
+      let g = rw (← boore-atkinson-total-at (s .period)) at (boore-atkinson-sigma-promise _ (s .mechanism) row) in
       rw model (record {
         median-enclosed =
             within booreAtkinsonPromise.medianWidth booreAtkinsonWidth (omega arith) (m .encloses) (m .narrow);
@@ -109,19 +88,15 @@ module _ (s : Scenario) (w : Within booreAtkinson s) where
         small = record { median = m .small; sigma = g .small };
       })
 
-pub sound : (s : Scenario) → refusalOf s ≡ 0 → Sound s (enclosureOf s)
-sound s accepted = elim (of-model s accepted) [
-  | inl p ↦ idriss-sound s (p .1) (p .0)
-  | inr p ↦ boore-atkinson-sound s (p .1) (p .0)
-]
+  pub sound : refusalOf s ≡ 0 → Sound s (enclosureOf s)
+  sound accepted = ⊎-elim idriss-sound boore-atkinson-sound (of-model s accepted)
 
--- ---- an answer by the number k of a check that is 0 only where the scenario is accepted
+  -- ---- an answer by the number k of a check that is 0 only where the scenario is accepted
 
-module _ (s : Scenario) where
   pub promised : (k : ℕ) → (k ≡ 0 → refusalOf s ≡ 0) → AnswerPromise k s (answerBy k s)
   unfolding answerBy
   promised zero accepted =
-      let e = sound s (accepted refl) in
+      let e = sound (accepted refl) in
       record {
         number = refl;
         enclosed = λ z. record {
@@ -145,17 +120,14 @@ module _ (s : Scenario) where
 
   pub small : (k : ℕ) → (k ≡ 0 → refusalOf s ≡ 0) → SmallAnswer (answerBy k s)
   unfolding answerBy
-  small zero accepted = sound s (accepted refl) .small
+  small zero accepted = sound (accepted refl) .small
   small (suc k) accepted = tt
 
--- ---- the two cases of an answer from fields
+  -- ---- the two cases of an answer from fields
 
-module _ (s : Scenario) where
   pub fields-refused : {k : ℕ} → checkOf s ≡ C.Refused k → A.Refused k ≡ answerOf s
   unfolding answerOf answerBy
-  fields-refused {k} e =
-      let f = failed s e in
-      rw (← f .number) (is-refused k _ (A.Refused k) (f .some))
+  fields-refused {k} e = let f = failed s e in rw (← f .number) (is-refused k _ (A.Refused k) (f .some))
 
   pub fields-enclosed : {row : ℕ} {e : Enclosure} → checkOf s ≡ C.Accepted row → e ≡ enclosureOf s →
       A.Enclosed e ≡ answerOf s
@@ -176,18 +148,7 @@ refused-in-doubles e = ap inDoubles e
 pub in-doubles : {k : ℕ} {s : Scenario} (a : Answer) → SmallAnswer a → AnswerPromise k s a →
     DoublesPromise k s a (inDoubles a)
 unfolding inDoubles doublesOf
-in-doubles (A.Enclosed e) h p =
-    record {
-      whole = p;
-      number = refl;
-      values = (
-        equals (e .median .low) (h .median .low),
-        (
-          equals (e .median .high) (h .median .high),
-          (equals (e .sigma .low) (h .sigma .low), (equals (e .sigma .high) (h .sigma .high), tt)),
-        ),
-      );
-    }
+in-doubles (A.Enclosed e) h p = record { whole = p; number = refl; values = search equals }
 in-doubles (A.Refused k) h p = record { whole = p; number = refl; values = tt }
 
 pub doubles-answers : {r : DoublesAnswer} (s : Scenario) (k : ℕ) → (k ≡ 0 → refusalOf s ≡ 0) →

@@ -1,15 +1,14 @@
 -- Answers from a record: what is read is accepted, and is answered as from fields.
-use mathlib.Core.Path.{_≡_, refl, sym, ap, _∙_}
+use mathlib.Core.Path.{_≡_, sym, ap, _∙_}
 use mathlib.Core.List.{List}
-use mathlib.Core.Logic.{inl, inr}
+use mathlib.Core.Logic.{⊎-elim}
 use Prim.Native.Nat.{ℕ}
-use native.Mathlib.Omega.{arith}
 use Rattle.scenario_theory.specs.declared.Scenario.{Scenario}
 use Rattle.scenario_theory.specs.Refusal.{refusalOf}
 use Rattle.scenario_theory.proofs.CheckLaws.{is-refused, unless-is, of-unless}
 use Rattle.record_theory.specs.declared.Reading.the-variants.{Read, Refused}
 use Rattle.record_theory.specs.declared.RowReading.the-variants as T
-use Rattle.record_theory.specs.Outcome.{mapIn, scenarioIn, lengthBy, readRefusal, readOf, restAt}
+use Rattle.record_theory.specs.Outcome.{scenarioIn, readRefusal, readOf, restAt}
 use Rattle.record_theory.specs.Steps.{rowReadingOf}
 use Rattle.record_theory.proofs.ReadingLaws.{accepted, read-as, not-read, read-of, row-read}
 use Rattle.engine_theory.specs.declared.Enclosure.{Enclosure}
@@ -30,9 +29,7 @@ module _ (s : List ℕ) where
   pub next-enclosed : {x : Scenario} {n row : ℕ} {a : Enclosure} → rowReadingOf s ≡ T.Read x n row →
       a ≡ enclosureOf x → N.Enclosed a n ≡ nextOf s
   unfolding nextOf
-  next-enclosed {x} {n} e same =
-      let r = read-as s x n (row-read s e .read) in
-      rw (r .number, r .scenario, r .size, same) refl
+  next-enclosed {x} {n} e same = let r = read-as s x n (row-read s e .read) in cc
 
   pub next-refused : {k : ℕ} → rowReadingOf s ≡ T.Refused k → N.Refused k ≡ nextOf s
   unfolding nextOf
@@ -56,27 +53,17 @@ module _ (s : List ℕ) where
   -- every answer of which a contract says `r ≡ nextOf s` keeps the promise
   pub next-promised : {r : NextAnswer} → r ≡ nextOf s → (r ≡ nextOf s) × NextPromise s r
   unfolding recordAnswerOf
-  next-promised e = (
-    e,
-    rw e (record {
-      answer = rw same-answer (promised (scenarioIn s) (readRefusal s) read-accepted);
-      length = same-length;
-    }),
-  )
+  next-promised e =
+      (e, rw e (record { answer = rw same-answer (promised _ _ read-accepted); length = same-length }))
 
   -- "Answering from a record .. answers the scenario read": as answering from its fields does
   pub record-as-fields : (x : Scenario) (n : ℕ) → readOf s ≡ Read x n → recordAnswerOf s ≡ answerOf x
   unfolding recordAnswerOf answerOf
-  record-as-fields x n e =
-      let r = read-as s x n e in
-      let taken = rw (r .scenario) at (r .passes .taken) in
-      rw (r .number, r .scenario, taken) refl
+  record-as-fields x n e = let r = read-as s x n e in cc
 
   pub record-refused : (k : ℕ) → readOf s ≡ Refused k → A.Refused k ≡ recordAnswerOf s
   unfolding recordAnswerOf answerBy
-  record-refused k e =
-      let r = not-read s k e in
-      rw (r .number) (is-refused k _ (A.Refused k) (r .some))
+  record-refused k e = let r = not-read s k e in rw (r .number) (is-refused k _ (A.Refused k) (r .some))
 
   -- ---- what an answer with the record's length says of the bytes
 
@@ -86,17 +73,11 @@ module _ (s : List ℕ) where
 
   pub next-read : {a : Enclosure} {n : ℕ} → nextOf s ≡ N.Enclosed a n → NextRead a n
   unfolding nextOf readOf answerOf answerBy
-  next-read {a} {n} e = elim (unless-is (readRefusal s) e) [
-    | inl p ↦
-        let same : a ≡ enclosureOf (scenarioIn s) = cc in
-        let size : lengthBy (mapIn s) ≡ n = cc in
-        record { read = rw (p .0, size) refl; answer = rw (read-accepted (p .0), same) refl }
-    | inr p ↦ let z : _≡_ {A = ℕ} 0 1 = cc in absurd (omega arith)
-  ]
+  next-read e =
+      ⊎-elim (λ p. record { read = cc; answer = cc (read-accepted (p .0)) }) (λ p. record { read = cc; answer = cc })
+      (unless-is (readRefusal s) e)
 
   pub next-not-read : {k : ℕ} → nextOf s ≡ N.Refused k → readOf s ≡ Refused k
   unfolding nextOf readOf
-  next-not-read {k} e = elim (unless-is (readRefusal s) e) [
-    | inl p ↦ let z : _≡_ {A = ℕ} 0 1 = cc in absurd (omega arith)
-    | inr p ↦ let same : readRefusal s ≡ k = cc in rw (← is-refused (readRefusal s) _ _ (p .0), same) refl
-  ]
+  next-not-read e =
+      ⊎-elim (λ p. cc) (λ p. cc (is-refused (readRefusal s) _ _ (p .0))) (unless-is (readRefusal s) e)
