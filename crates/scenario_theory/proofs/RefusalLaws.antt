@@ -1,14 +1,15 @@
 -- What a scenario that is not refused is like.
 use mathlib.Core.Path.{_≡_, refl}
-use mathlib.Core.Bool.{true≢false, Bool, true, false, not, cond, _||_}
+use mathlib.Core.Bool.{true≢false, Bool, true, false, not, _||_}
 use mathlib.Core.List.{_∷_}
-use mathlib.Core.Logic.{_⊎_, inl, inr}
+use mathlib.Core.Logic.{_⊎_, inl, inr, ⊎-elim}
 use Prim.Native.Nat.{ℕ, _≤_}
 use native.Mathlib.Omega.{arith}
 use borrow.Author.Needs.{needs}
-use borrow.Author.Tests.{eqb-true, ltb-false, not-false}
-use lib.Dec.{T, eqb, ltb}
+use borrow.Author.Tests.{ltb-false, not-false}
+use lib.Dec.{T, eqb, ltb, eqb→eq}
 use Rattle.toolbox_theory.specs.Lists.{among}
+use Rattle.toolbox_theory.proofs.Tests.{by-test}
 use Rattle.toolbox_theory.proofs.ListLaws.{upTo, at-most}
 use Rattle.scenario_theory.specs.declared.Scenario.{Scenario}
 use Rattle.scenario_theory.specs.Checks.{Range, beyond, _when_}
@@ -49,17 +50,16 @@ within m s e =
     search needs
 
 -- its model is 1 or 2
+abbrev Taken : Scenario → Type 0
+Taken s = ((s .model ≡ 1) × Within idriss s) ⊎ ((s .model ≡ 2) × Within booreAtkinson s)
+
 pub of-model : (s : Scenario) → refusalOf s ≡ 0 →
     ((s .model ≡ 1) × Within idriss s) ⊎ ((s .model ≡ 2) × Within booreAtkinson s)
 unfolding refusalOf
-of-model s e = go (eqb (s .model) 1) (eqb (s .model) 2) refl refl e
-  where
-    go : (a b : Bool) → eqb (s .model) 1 ≡ a → eqb (s .model) 2 ≡ b →
-        cond a (refusalBy idriss s) (cond b (refusalBy booreAtkinson s) 1) ≡ 0 →
-        ((s .model ≡ 1) × Within idriss s) ⊎ ((s .model ≡ 2) × Within booreAtkinson s)
-    go true b p q e = inl (eqb-true (s .model) 1 p, within idriss s e)
-    go false true p q e = inr (eqb-true (s .model) 2 q, within booreAtkinson s e)
-    go false false p q e = absurd (omega arith)
+of-model s =
+    by-test (eqb (s .model) 1) (λ k. k ≡ 0 → Taken s) (λ t e. inl (eqb→eq _ _ t, within idriss s e))
+    (λ _. by-test (eqb (s .model) 2) (λ k. k ≡ 0 → Taken s) (λ t e. inr (eqb→eq _ _ t, within booreAtkinson s e))
+    (λ _ e. absurd (omega arith)))
 
 pub within-idriss : (s : Scenario) → s .model ≡ 1 → refusalOf s ≡ 0 → Within idriss s
 within-idriss s m e = elim (of-model s e) [ inl p ↦ p .1 | inr p ↦ absurd (omega arith) ]
@@ -86,7 +86,6 @@ sizes-by m s h codes periods k w =
     omega arith
 
 pub sizes : (s : Scenario) → refusalOf s ≡ 0 → Sizes s
-sizes s e = elim (of-model s e) [
-  | inl p ↦ sizes-by idriss s (omega arith) tt tt (omega arith) (p .1)
-  | inr p ↦ sizes-by booreAtkinson s (omega arith) tt tt (omega arith) (p .1)
-]
+sizes s e =
+    ⊎-elim (λ p. sizes-by idriss s (omega arith) tt tt (omega arith) (p .1))
+    (λ p. sizes-by booreAtkinson s (omega arith) tt tt (omega arith) (p .1)) (of-model s e)

@@ -2,7 +2,7 @@
 use mathlib.Core.Path.{_≡_, refl, sym, ap, _∙_}
 use mathlib.Core.Bool.{Bool, true, false, not, cond, _&&_, _||_}
 use mathlib.Core.List.{List, _∷_}
-use mathlib.Core.Logic.{inl, inr}
+use mathlib.Core.Logic.{⊎-elim}
 use Prim.Native.Nat.{ℕ, zero, suc, _+_, _-_, _<_}
 use native.Mathlib.Omega.{arith}
 use borrow.Author.Tests.{ne-eqb}
@@ -124,10 +124,9 @@ module _ (m : Limits) (own : ℕ → ℕ) (s : Scenario) {p : Place} (placed : P
 
 pub passed : (s : Scenario) {row : ℕ} → checkOf s ≡ C.Accepted row → Looked s row
 unfolding checkOf
-passed s e = elim (unless-is (refusalOf s) e) [
-  | inl p ↦ record { accepted = p .0; row = cc }
-  | inr p ↦ let z : _≡_ {A = ℕ} 0 1 = cc in absurd (omega arith)
-]
+passed s e =
+    ⊎-elim (λ p. record { accepted = p .0; row = cc }) (λ p. record { accepted = cc; row = cc })
+    (unless-is (refusalOf s) e)
 
 -- the number of a check that fails is not 0
 pub record Failed (s : Scenario) (k : ℕ) : Type 0 where
@@ -136,7 +135,7 @@ pub record Failed (s : Scenario) (k : ℕ) : Type 0 where
 
 pub failed : (s : Scenario) {k : ℕ} → checkOf s ≡ C.Refused k → Failed s k
 unfolding checkOf
-failed s {k} e = elim (unless-is (refusalOf s) e) [
-  | inl p ↦ let z : _≡_ {A = ℕ} 0 1 = cc in absurd (omega arith)
-  | inr p ↦ let same : k ≡ refusalOf s = cc in record { number = same; some = λ z. p .0 (sym same ∙ z) }
-]
+failed s {k} e =
+    ⊎-elim (λ p. let z : _≡_ {A = ℕ} 0 1 = cc in absurd (omega arith))
+    (λ p. let same : k ≡ refusalOf s = cc in record { number = same; some = λ z. p .0 (sym same ∙ z) })
+    (unless-is (refusalOf s) e)
