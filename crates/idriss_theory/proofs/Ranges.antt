@@ -3,11 +3,10 @@
 -- end where the difference is above zero, and the low end where it is below. A test adds these up, once for all
 -- magnitudes, distances, velocities and codes.
 use mathlib.Core.Bool.{Bool, true, false, _&&_}
-use Prim.Native.Nat.{ℕ, _+_, _*_, _-_, _≤_, _<_, min}
+use Prim.Native.Nat.{ℕ, _+_, _*_, _-_, _≤_, _<_}
 use native.Mathlib.Nat.{mul-le-mul, mul-le-mul-left, mul-le-mul-right}
 use native.Mathlib.Decide.{decLe}
 use native.Mathlib.Omega.{arith}
-use borrow.Author.Needs.{needs}
 use lib.Count.{leadingZeros}
 use lib.Dec.{T, leb, leb→le}
 use Rattle.toolbox_theory.specs.Whole.{up, down}
@@ -16,8 +15,7 @@ use Rattle.exact_theory.specs.Fraction.{_over_}
 use Rattle.interval_theory.specs.declared.Ends.{Ends}
 use Rattle.interval_theory.specs.declared.SignedPair.{SignedPair}
 use Rattle.interval_theory.specs.Natural.{scale, multipleOf, sumOf}
-use Rattle.interval_theory.specs.Bound.{Bound, Within, _fits_}
-use Rattle.interval_theory.proofs.NaturalBounds.{fitting, wider}
+use Rattle.interval_theory.specs.Bound.{Bound, Within}
 use Rattle.logarithm_tables_theory.specs.Tables.{coarseAt, fineAt}
 use Rattle.logarithm_theory.specs.Promise.{lnWidth}
 use Rattle.logarithm_theory.specs.Evaluation.{scaledOf, nearOneOf, mantissaLnOf, scaledLnOf, lnOf}
@@ -28,30 +26,20 @@ use Rattle.idriss_theory.specs.declared.Row as code
 use Rattle.idriss_theory.specs.Tables.{Row, noRow}
 use Rattle.idriss_theory.specs.Rows.{rowAt, parts}
 use Rattle.idriss_theory.specs.Promise.{MedianDomain}
-use Rattle.idriss_theory.specs.Evaluation.{alphaSum, betaOf, gainsOf, lossesOf, vs30Cap, distanceTermOf}
-use Rattle.idriss_theory.specs.Evaluation.{siteTermOf, medianPairBy, medianPairOf}
+use Rattle.idriss_theory.specs.Evaluation.{alphaSum, betaOf, gainsOf, lossesOf, vs30Cap, distanceLnOf, vs30LnOf}
+use Rattle.idriss_theory.specs.Evaluation.{distanceTermOf, siteTermOf, medianPairBy, medianPairOf}
 use Rattle.idriss_theory.specs.Ranges.{medianLeast, medianMost, rowStep, MedianRanges, RowsNear}
 use Rattle.idriss_theory.proofs.Rows.{row-limits}
 use Rattle.idriss_theory.proofs.Bounds.{F-small, BetaBounds, beta-bounds}
 
 -- ---- where the logarithms lie
 
--- ln(R + 10) from ln 10 to ln 185, and ln V from ln 450 to ln 1200, rounded outward
+-- ln(R + 10) from ln 10 to ln 185, and ln V from ln 450 to ln 1200
 abbrev farBound : Bound
-farBound = record { width = lnWidth; least = 2_302_000_000; most = 5_221_000_000 }
+farBound = lnBetween 1_000 18_500 100 100
 
 abbrev siteBound : Bound
-siteBound = record { width = lnWidth; least = 6_109_000_000; most = 7_091_000_000 }
-
-limits : T (lnBetween 1_000 18_500 100 100 fits farBound) × T (lnBetween 4_500 vs30Cap 10 10 fits siteBound)
-unfolding lnOf scaledOf scaledLnOf mantissaLnOf nearOneOf coarseAt fineAt leadingZeros
-limits = (tt, tt)
-
-far-within : {d : ℕ} → d ≤ 17_500 → Within (lnOf (d + 1_000) 100) farBound
-far-within h = wider (ln-between (search needs)) (fitting (limits .0))
-
-site-within : {v : ℕ} → 4_500 ≤ v → Within (lnOf (min v vs30Cap) 10) siteBound
-site-within h = wider (ln-between (search needs)) (fitting (limits .1))
+siteBound = lnBetween 4_500 vs30Cap 10 10
 
 -- ---- terms
 
@@ -161,10 +149,12 @@ module _ (r q : Row) (low high : ℕ) where
     rises : {k d v : ℕ} (mechanism t : ℕ) → MedianDomain k m d v → T (atMost t) →
         Rises t (medianPairOf r m d v mechanism) (medianPairOf q m d v mechanism)
     unfolding medianPairBy gainsOf lossesOf distanceTermOf siteTermOf sumOf
-    rises mechanism t h passed =
-        let f = ln-bound far (betaOf a m) (betaOf b m) beta-few (far-within (h .near)) in
-        let s = ln-bound site (20_000 * a .8) (20_000 * b .8) (omega arith) (site-within (h .slow)) in
-        let d = own-bound anelastic (omega arith) (h .near) in
+    rises {d = d} {v} mechanism t h passed =
+        let lnR : Within (distanceLnOf d) farBound = ln-between (omega arith) in
+        let lnV : Within (vs30LnOf v) siteBound = ln-between (omega arith) in
+        let f = ln-bound far (betaOf a m) (betaOf b m) beta-few lnR in
+        let s = ln-bound site (20_000 * a .8) (20_000 * b .8) (omega arith) lnV in
+        let g = own-bound anelastic (omega arith) (h .near) in
         omega (arith, leb→le, alpha-bound, own-bound fault (omega arith) (F-small mechanism))
 
 -- ---- the tests of all rows
@@ -186,7 +176,8 @@ steps isTable3 k = apart rowStep rowStep (rowAt isTable3 k) (rowAt isTable3 (k +
 
 all-rows : (isTable3 : Bool) →
     T (allBelow rowCount (ranges isTable3)) × T (allBelow (rowCount - 1) (steps isTable3))
-unfolding allBelow rowAt up down _over_ above under alpha
+unfolding allBelow rowAt up down _over_ above under alpha lnOf scaledOf scaledLnOf mantissaLnOf nearOneOf coarseAt
+    fineAt leadingZeros
 all-rows true = (tt, tt)
 all-rows false = (tt, tt)
 
@@ -218,7 +209,7 @@ module _ (isTable3 : Bool) {k m d v : ℕ} (mechanism : ℕ) (h : MedianDomain k
       let t = below rowCount (ranges isTable3) (all-rows isTable3 .0) k (h .row) in
       let p = near medianLeast medianMost (rowAt isTable3 k) noRow (beta-for k (h .row)) (omega arith) t in
       let z : betaOf (parts noRow) m ≤ 0 = omega arith in
-      omega (arith, mul-le-mul-right (lnOf (d + 1_000) 100 .low) z)
+      omega (arith, mul-le-mul-right (distanceLnOf d .low) z)
 
 pub rows-near : (isTable3 : Bool) (k : ℕ) {m d v : ℕ} (mechanism : ℕ) → MedianDomain (k + 1) m d v →
     RowsNear isTable3 k m d v mechanism

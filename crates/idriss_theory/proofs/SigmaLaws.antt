@@ -36,11 +36,11 @@ own-clamped most period =
     by-test (eqb period 0) (λ t. clamp 50 most t ≡ clamp 50 most period) (λ e. rw (eqb→eq period 0 e) refl) (λ e. refl)
 
 module _ {t : ℕ} (l : Listed t) {σ : Points} (known : Known σ) where
-  -- ln T from 1 s on, and its negative below
+  -- the absolute value of ln T
   ln-held : Held (σ .lnAt (max t 1_000) (min t 1_000)) (periodLogarithm t)
   ln-held = rw (l .is) (lies-natural _ _ (known .ln-within (l .domain)))
 
-  -- 0.035 ln T
+  -- 0.035 ln T: from 1 s on, and below
   term-held : 1_000 ≤ t → Held (pos 35 over 1_000 *q σ .lnAt t 1_000) (periodTermOf t)
   unfolding listedTermOf up down
   term-held h =
