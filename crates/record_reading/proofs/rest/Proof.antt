@@ -1,10 +1,11 @@
 -- `rest` meets its contract.
-use mathlib.Core.Path.{refl, sym, _∙_}
-use Prim.Native.Nat.{_-_}
+use mathlib.Core.Path.{_≡_, refl, sym, _∙_}
+use mathlib.Core.List.{List}
+use Prim.Native.Nat.{ℕ, _-_}
 use native.Mathlib.Nat.{le-refl, zero-add}
 use native.Mathlib.Omega.{arith}
 use borrow.Author.Needs.{needs}
-use lib.ListN.{length, drop, length-drop}
+use lib.ListN.{length, take, drop, length-drop}
 use lib.Seq.{take-all}
 use Rattle.record_theory.proofs.ReadingLaws.{ReadAs, read-as, not-read}
 use Rattle.record_reading.proofs.rest.Statement.{statement}
@@ -14,12 +15,9 @@ as-read : (c : tie.After-n) →
     ReadAs (c .before .before .before .before .args .s .now) (c .n .given .0 .0) (c .n .given .0 .1 .0)
 as-read c = read-as _ _ _ (sym (c .before .before .read .ensures .0) ∙ c .n .given .1)
 
-read : tie.Need-returns
-read c =
-    let s = c .before .before .before .before .before .before .args .s .now in
-    let n = c .before .before .n .given .0 .1 .0 in
-    let r = as-read (c .before .before) in
-    (rw (r .rest) (take-all (length s - n) (drop n s) (rw length-drop (le-refl (length s - n)))), rw (r .place) refl)
+-- a part that begins at n and ends with s
+all-after : (s : List ℕ) (n : ℕ) → take (length s - n) (drop n s) ≡ drop n s
+all-after s n = take-all (length s - n) (drop n s) (rw length-drop (le-refl (length s - n)))
 
 pub rest-spec : {M : Type 1} → statement M
 rest-spec =
@@ -29,7 +27,9 @@ rest-spec =
     (λ c. omega (arith, as-read (c .before)))
     (λ c. omega (arith, as-read (c .before)))
     (λ c. search needs) (λ c. search needs) (λ c. search needs)
-    read
+    (λ c.
+    let r = as-read (c .before .before) in
+    (rw (r .rest, all-after), rw (r .place) refl))
     (λ c.
     let r = not-read _ _ (sym (c .before .before .before .read .ensures .0) ∙ c .before .enum-told .given .1) in
     (sym (r .rest), rw (r .place, zero-add) refl)))
