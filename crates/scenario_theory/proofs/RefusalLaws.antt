@@ -27,13 +27,12 @@ pub record Within (m : Limits) (s : Scenario) : Type 0 where
   pub mechanism : among (m .mechanisms) (s .mechanism) ≡ true
   pub period : among (0 ∷ m .periods) (s .period) ≡ true
 
+neither : (a b : Bool) → (a || b) ≡ false → (a ≡ false) × (b ≡ false)
+neither true b e = absurd (true≢false e)
+neither false b e = (refl, e)
+
 not-beyond : (r : Range) (x : ℕ) → beyond r x ≡ false → (r .low ≤ x) × (x ≤ r .high)
-not-beyond r x e = go (ltb x (r .low)) (ltb (r .high) x) refl refl e
-  where
-    go : (a b : Bool) → ltb x (r .low) ≡ a → ltb (r .high) x ≡ b → (a || b) ≡ false → (r .low ≤ x) × (x ≤ r .high)
-    go true b p q e = absurd (true≢false e)
-    go false true p q e = absurd (true≢false e)
-    go false false p q e = (ltb-false x (r .low) p, ltb-false (r .high) x q)
+not-beyond r x e = let p = neither (ltb x (r .low)) (ltb (r .high) x) e in omega (arith, ltb-false)
 
 pub within : (m : Limits) (s : Scenario) → refusalBy m s ≡ 0 → Within m s
 unfolding refusalBy
