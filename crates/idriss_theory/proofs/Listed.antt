@@ -6,9 +6,8 @@ use Prim.Native.Nat.{ℕ, suc, _+_, _<_, min, max}
 use native.Mathlib.Omega.{arith}
 use lib.Count.{leadingZeros}
 use lib.Dec.{T, eqb, eqb→eq}
-use lib.Ieee.Bits.{is-true}
 use Rattle.toolbox_theory.specs.Lists.{among}
-use Rattle.toolbox_theory.proofs.Tests.{allBelow, below, allLe, all-le, equal}
+use Rattle.toolbox_theory.proofs.Tests.{allBelow, below, allLe, all-le, equal, is-true}
 use Rattle.toolbox_theory.proofs.ListLaws.{all, all-at}
 use Rattle.interval_theory.specs.declared.Ends.{Ends}
 use Rattle.interval_theory.specs.Bound.{size, Sized}

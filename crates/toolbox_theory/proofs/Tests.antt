@@ -1,5 +1,5 @@
 -- Tests that antt computes over a whole table or range, and what they show of each entry.
-use mathlib.Core.Path.{_≡_}
+use mathlib.Core.Path.{_≡_, refl}
 use mathlib.Core.Bool.{Bool, true, false, not, cond, _&&_}
 use mathlib.Core.List.{List, [], _∷_}
 use Prim.Native.Nat.{ℕ, zero, suc, _+_, _<_, _≤_}
@@ -8,6 +8,10 @@ use native.Mathlib.Decide.{decLt}
 use native.Mathlib.Omega.{arith}
 use lib.Dec.{T, leb, leb→le}
 use lib.ListN.{length, getD}
+
+pub is-true : (x : Bool) → T x → x ≡ true
+is-true true t = refl
+is-true false t = absurd t
 
 pub and-left : (x y : Bool) → T (x && y) → T x
 and-left true y t = tt

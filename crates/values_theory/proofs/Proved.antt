@@ -21,7 +21,6 @@ use Rattle.idriss_theory.specs.Tables.{takesTable3, rowFor}
 use Rattle.idriss_theory.specs.Median.{alphaPart, betaFactor}
 use Rattle.boore_atkinson_theory.specs.Tables.{rowFor as secondRowFor}
 use Rattle.boore_atkinson_theory.specs.SiteTerm.{bnl}
-use Rattle.boore_atkinson_theory.specs.SiteTerm as site
 use Rattle.values_theory.specs.Table.{Check, pairAt, cutAt, atEvery, fraction, reads, HasEnds, CutTo, Holds}
 use Rattle.values_theory.specs.Table.{AllHold, values}
 use Rattle.values_theory.proofs.Constant.{same, same-is, is-same, when, Constant, merged, zeroOver, positive}

@@ -6,8 +6,6 @@ use Rattle.exact_theory.proofs.RootLaws.{wholeRoot-is, root-unique}
 use Rattle.logarithm_theory.proofs.Newton.{from-some, quotient-less, falls, still-above, square-fits, first}
 use Rattle.logarithm.proofs.whole_root.Statement.{statement}
 use Rattle.logarithm.proofs.whole_root.Tie as tie
-use Rattle.logarithm.proofs.whole_root.Reads as reads
-use Rattle.logarithm.proofs.whole_root.Lts as lts
 
 abbrev Inv-loop : tie.InvT-loop
 Inv-loop n half s₀ s = (n < suc s * suc s) × (s < 2 ^ 32)

@@ -7,9 +7,8 @@ use native.Mathlib.Omega.{arith}
 use borrow.Author.Needs.{needs}
 use borrow.Author.Tests.{ne-eqb, le-ltb}
 use lib.Dec.{eqb}
-use lib.Ieee.Bits.{is-true}
 use Rattle.toolbox_theory.specs.Lists.{among}
-use Rattle.toolbox_theory.proofs.Tests.{allBelow, below}
+use Rattle.toolbox_theory.proofs.Tests.{allBelow, below, is-true}
 use Rattle.scenario.proofs.unknown.Statement.{statement}
 use Rattle.scenario.proofs.unknown.Tie as tie
 
