@@ -32,7 +32,7 @@ run: program
 test: definitions
 	rt fmt --check
 	set -o pipefail; verdict=$$(mktemp); \
-	rt ci 2>&1 | tee $$verdict && $(MAKE) --no-print-directory -j 2 -O outside && tail -n 1 $$verdict; \
+	rt ci 2>&1 | tee $$verdict && $(MAKE) --no-print-directory -j 3 -O outside && tail -n 1 $$verdict; \
 	status=$$?; rm -f $$verdict; exit $$status
 
 longer: program

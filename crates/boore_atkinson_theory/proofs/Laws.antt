@@ -122,7 +122,7 @@ module _ {k m d v : ℕ} (mechanism : ℕ) (h : MedianDomain k m d v) where
   unfolding p minusPOf rockOf
   p-held known =
       let l = distance-limits 0 (omega arith) .sizes in
-      let o = pga-order mechanism (effectiveOf d (pga .distance .h)) l (h .magnitude-low) (h .magnitude-high) in
+      let o = pga-order mechanism (effectiveOf d (pga .distance .h)) l (h .magnitude-high) in
       let r = rock-lies 0 mechanism (omega arith) (h .magnitude-low) (h .magnitude-high) (h .near) known in
       rw pga-at (lies-wider r _ _ _ _ (omega arith) (omega arith))
 

@@ -1,11 +1,13 @@
--- The magnitude term takes few values, all exact: what is needed of it is tested by every row, for every magnitude
--- and mechanism.
+-- The magnitude term is exact. Its gain rises with the magnitude and its loss falls, so that what is needed of it is
+-- tested at some magnitudes, by every row and for each level.
 use mathlib.Core.Path.{_≡_, refl}
 use mathlib.Core.Bool.{Bool, true, false, cond}
 use mathlib.Core.List.{List, [], _∷_}
-use Prim.Native.Nat.{ℕ, _+_, _*_, _-_, _≤_, _<_}
-use native.Mathlib.Nat.{zero-add}
+use Prim.Native.Nat.{ℕ, _+_, _*_, _-_, _/_, _≤_, _<_}
+use native.Mathlib.Nat.{zero-add, le-trans, mul-le-mul, mul-le-mul-left}
+use native.Mathlib.Decide.{decLe}
 use native.Mathlib.Omega.{arith}
+use borrow.Author.Tests.{le-leb, lt-leb}
 use lib.Dec.{T, eqb}
 use Rattle.toolbox_theory.specs.Whole.{up, down}
 use Rattle.toolbox_theory.specs.Lists.{among}
@@ -17,8 +19,31 @@ use Rattle.boore_atkinson_theory.specs.declared.Exact.{Exact}
 use Rattle.boore_atkinson_theory.specs.declared.MagnitudeRow.{MagnitudeRow}
 use Rattle.boore_atkinson_theory.specs.Tables.{MagnitudeScaling, table7, noRow}
 use Rattle.boore_atkinson_theory.specs.Rows.{rowAt, pga, magnitudeParts}
-use Rattle.boore_atkinson_theory.specs.Evaluation.{spreadOf, levelOf, magnitudeOf}
+use Rattle.boore_atkinson_theory.specs.Evaluation.{levelOf, magnitudeOf}
 use Rattle.boore_atkinson_theory.specs.Ranges.{termLimits}
+
+-- ---- by any row
+
+record Rises (e f : Exact) : Type 0 where
+  gain : e .gain ≤ f .gain
+  loss : f .loss ≤ e .loss
+
+rises : (r : MagnitudeRow) (mechanism : ℕ) {m n : ℕ} → m ≤ n →
+    Rises (magnitudeOf r m mechanism) (magnitudeOf r n mechanism)
+unfolding magnitudeOf
+rises r mechanism {m} {n} h = elim (decLe n (r .11)) [
+  | yes p ↦
+      let near : r .11 - n ≤ r .11 - m = omega arith in
+      simp (le-leb n (r .11) p, le-leb m (r .11) (le-trans h p))
+      (omega (arith, mul-le-mul-left (r .8) near, mul-le-mul-left (r .9) (mul-le-mul near near)))
+  | no p ↦ elim (decLe m (r .11)) [
+    | yes q ↦ simp (lt-leb n (r .11) (omega arith), le-leb m (r .11) q) (omega arith)
+    | no q ↦
+        let far : m - r .11 ≤ n - r .11 = omega arith in
+        simp (lt-leb n (r .11) (omega arith), lt-leb m (r .11) (omega arith))
+        (omega (arith, mul-le-mul-left (r .10) far))
+  ]
+]
 
 -- a code for each level; any other code has that of 2
 abbrev codes : List ℕ
@@ -39,38 +64,60 @@ coded r mechanism = go (eqb mechanism 9) (eqb mechanism 0) (eqb mechanism 1)
     go false false true = record { code = 1; listed = refl; same = refl }
     go false false false = record { code = 2; listed = refl; same = refl }
 
-module _ (r : MagnitudeRow) (limits : ℕ → Exact → List (ℕ × ℕ)) where
-  -- the limits hold of the magnitude term by the row r, for a magnitude and a code; and for all of them
-  abbrev holds : ℕ → ℕ → Bool
-  holds m code = allLe (limits m (magnitudeOf r m code))
+-- the limits hold of the terms at low and at high, for every code
+module _ (r : MagnitudeRow) (low high : ℕ) (limits : Exact → Exact → List (ℕ × ℕ)) where
+  abbrev holds : ℕ → Bool
+  holds code = allLe (limits (magnitudeOf r low code) (magnitudeOf r high code))
 
-  abbrev everyTerm : Bool
-  everyTerm = allBelow 301 (λ i. all (holds (500 + i)) codes)
-
-  term-within : T everyTerm → (m mechanism : ℕ) → 500 ≤ m → m ≤ 800 → AllLe (limits m (magnitudeOf r m mechanism))
+  terms-within : T (all holds codes) → (mechanism : ℕ) →
+      AllLe (limits (magnitudeOf r low mechanism) (magnitudeOf r high mechanism))
   unfolding magnitudeOf
-  term-within t m mechanism low high =
+  terms-within t mechanism =
       let c = coded r mechanism in
-      let own : 500 + (m - 500) ≡ m = omega arith in
-      let p = below 301 (λ i. all (holds (500 + i)) codes) t (m - 500) (omega arith) in
-      let h = all-at (holds m) codes (c .code) (rw own at p) (c .listed) in
-      rw (c .same) (all-le (limits m (magnitudeOf r m (c .code))) h)
+      rw (c .same) (all-le (limits (magnitudeOf r low (c .code)) (magnitudeOf r high (c .code)))
+      (all-at holds codes (c .code) t (c .listed)))
 
--- ---- by every row: the test
+-- ---- by every row, for magnitudes from 5.00 to 8.00, a fifth at a time: the test
 
-abbrev rowHolds : ℕ → MagnitudeScaling → Bool
-rowHolds k r = everyTerm (magnitudeParts r) (termLimits (rowAt k))
+abbrev fifth : ℕ → ℕ
+fifth i = 500 + 20 * i
 
-rows-within : T (every rowHolds 0 table7)
-unfolding allBelow magnitudeOf levelOf spreadOf rowAt up down _over_
+abbrev limitsAt : ℕ → ℕ → Exact → Exact → List (ℕ × ℕ)
+limitsAt k i = termLimits (rowAt k) (fifth i) (fifth (i + 1))
+
+abbrev fifthHolds : ℕ → MagnitudeScaling → ℕ → Bool
+fifthHolds k r i = all (holds (magnitudeParts r) (fifth i) (fifth (i + 1)) (limitsAt k i)) codes
+
+rows-within : T (every (λ k r. allBelow 16 (fifthHolds k r)) 0 table7)
+unfolding allBelow magnitudeOf levelOf rowAt up down _over_
 rows-within = tt
 
+-- what holds of the magnitude term e at m, by the row k
+pub record TermWithin (k m : ℕ) (e : Exact) : Type 0 where
+  pub low : ℕ
+  pub high : ℕ
+  pub from : low ≤ m
+  pub to : m ≤ high
+  pub limits : AllLe (termLimits (rowAt k) low high e e)
+
 pub row-term : {k : ℕ} → k < rowCount → (m mechanism : ℕ) → 500 ≤ m → m ≤ 800 →
-    AllLe (termLimits (rowAt k) m (magnitudeOf (magnitudeParts (rowAt k .magnitude)) m mechanism))
+    TermWithin k m (magnitudeOf (magnitudeParts (rowAt k .magnitude)) m mechanism)
 unfolding rowAt
-row-term {k} h =
-    let t = every-at rowHolds (noRow .magnitude) 0 table7 rows-within k h in
-    term-within (magnitudeParts (rowAt k .magnitude)) (termLimits (rowAt k)) (rw (zero-add k) at t)
+row-term {k} h m mechanism low high =
+    let r = magnitudeParts (rowAt k .magnitude) in
+    let i = (m - 500) / 20 in
+    let p = every-at (λ k r. allBelow 16 (fifthHolds k r)) (noRow .magnitude) 0 table7 rows-within k h in
+    let t = below 16 (fifthHolds k (rowAt k .magnitude)) (rw (zero-add k) at p) i (omega arith) in
+    let from : fifth i ≤ m = omega arith in
+    let to : m ≤ fifth (i + 1) = omega arith in
+    let w = terms-within r (fifth i) (fifth (i + 1)) (limitsAt k i) t mechanism in
+    record {
+      low = fifth i;
+      high = fifth (i + 1);
+      from = from;
+      to = to;
+      limits = omega (arith, w, rises r mechanism from, rises r mechanism to);
+    }
 
 -- ---- by the row PGA
 
@@ -78,12 +125,14 @@ abbrev pub pgaMagnitude : MagnitudeRow
 pgaMagnitude = magnitudeParts (pga .magnitude)
 
 -- below zero, and by more than −c3 of any row
-abbrev fallLimits : ℕ → Exact → List (ℕ × ℕ)
-fallLimits m e = (e .gain + 10_000 * 1_151, e .loss) ∷ []
+abbrev fallLimits : Exact → Exact → List (ℕ × ℕ)
+fallLimits e f = (f .gain + 10_000 * 1_151, f .loss) ∷ []
 
-pga-within : T (everyTerm pgaMagnitude fallLimits)
-unfolding allBelow magnitudeOf levelOf rowAt up down _over_
+pga-within : T (all (holds pgaMagnitude 800 800 fallLimits) codes)
+unfolding magnitudeOf levelOf rowAt up down _over_
 pga-within = tt
 
-pub pga-falls : (m mechanism : ℕ) → 500 ≤ m → m ≤ 800 → AllLe (fallLimits m (magnitudeOf pgaMagnitude m mechanism))
-pga-falls = term-within pgaMagnitude fallLimits pga-within
+pub pga-falls : (m mechanism : ℕ) → m ≤ 800 →
+    let e = magnitudeOf pgaMagnitude m mechanism in e .gain + 10_000 * 1_151 ≤ e .loss
+pga-falls m mechanism high =
+    omega (arith, terms-within pgaMagnitude 800 800 fallLimits pga-within mechanism, rises pgaMagnitude mechanism high)

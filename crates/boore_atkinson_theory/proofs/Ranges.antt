@@ -18,7 +18,8 @@ module _ {m d v : ℕ} (mechanism : ℕ) where
   medianPairOf-ranges {k} h =
       let t = row-term (h .row) m mechanism (h .magnitude-low) (h .magnitude-high) in
       let q = distance-limits k (h .row) .sizes in
-      let f = fall-within q (h .magnitude-high) (effective-sized (squares (h .near) (q .shallow) (q .deep))) in
+      let e = effective-sized (squares (h .near) (q .shallow) (q .deep)) in
+      let f = fall-within q (h .magnitude-high) e (t .from) (t .to) in
       let s = site-limits k (h .row) .sizes in
       let l = linear-within s (h .slow) (h .fast) in
       let p = minus-p-sized mechanism (h .magnitude-low) (h .magnitude-high) (h .near) in

@@ -20,7 +20,7 @@ use Rattle.boore_atkinson_theory.specs.Evaluation.{minusPOf}
 use Rattle.boore_atkinson_theory.specs.Promise.{rockWidth}
 use Rattle.boore_atkinson_theory.specs.Sizes.{kmMost, EffectiveSized, MagnitudeBounds, Small, termMost}
 use Rattle.boore_atkinson_theory.specs.Sizes.{rockMost}
-use Rattle.boore_atkinson_theory.specs.Ranges.{fallBound}
+use Rattle.boore_atkinson_theory.specs.Ranges.{spreadMost, fallBound}
 use Rattle.boore_atkinson_theory.proofs.Rows.{distance-limits}
 use Rattle.boore_atkinson_theory.proofs.Magnitudes.{row-term, pgaMagnitude, pga-falls}
 
@@ -73,11 +73,15 @@ module _ {r : DistanceRow} {m : ℕ} {s : EffectiveDistance} (l : DistanceLimits
   unfolding fallOf
   fall-sized = at-most (sum spreading anelastic) _ tt
 
-  -- and closer, by the row and the magnitude
-  pub fall-within : Within (fallOf r m s) (fallBound r m)
-  unfolding fallOf
-  fall-within =
-      sum-within (multiple-within (le-refl (spreadOf r m)) (z .ln)) (multiple-within (le-refl (200 * r .3)) (z .km))
+  -- and closer, by the row, for magnitudes from least to most
+  pub fall-within : {least most : ℕ} → least ≤ m → m ≤ most → Within (fallOf r m s) (fallBound r least most)
+  unfolding fallOf spreadOf
+  fall-within {least} {most} from to =
+      let far : m - 450 ≤ most - 450 = omega arith in
+      let near : least - 450 ≤ m - 450 = omega arith in
+      let few : spreadOf r m ≤ spreadMost r least most =
+      omega (arith, mul-le-mul-left (r .1) near, mul-le-mul-left (r .2) far) in
+      sum-within (multiple-within few (z .ln)) (multiple-within (le-refl (200 * r .3)) (z .km))
 
 -- ---- the magnitude term
 
@@ -90,7 +94,7 @@ magnitude-bounds {r} {m} l low high =
 
 pub term-small : {k m : ℕ} (mechanism : ℕ) → k < rowCount → 500 ≤ m → m ≤ 800 →
     Small (magnitudeOf (magnitudeParts (rowAt k .magnitude)) m mechanism) termMost
-term-small mechanism h low high = let t = row-term h _ mechanism low high in omega arith
+term-small mechanism h low high = omega (arith, row-term h _ mechanism low high .limits)
 
 -- ---- the motion on rock
 
@@ -102,9 +106,9 @@ rock-sized q mechanism l g high z = let f = fall-sized l high z in omega (arith,
 
 -- the rock acceleration is below 1 g: −p is above zero
 pub pga-order : {r : DistanceRow} {m : ℕ} (mechanism : ℕ) (s : EffectiveDistance) → DistanceLimits r →
-    500 ≤ m → m ≤ 800 → let a = rockOf r pgaMagnitude m s mechanism in a .gain .low ≤ a .loss .low
+    m ≤ 800 → let a = rockOf r pgaMagnitude m s mechanism in a .gain .low ≤ a .loss .low
 unfolding rockOf
-pga-order {m = m} mechanism s l low high = let t = pga-falls m mechanism low high in omega arith
+pga-order {m = m} mechanism s l high = let t = pga-falls m mechanism high in omega arith
 
 pub minus-p-sized : {m d : ℕ} (mechanism : ℕ) → 500 ≤ m → m ≤ 800 → d ≤ 19_999 →
     Sized (minusPOf m d mechanism) rockWidth rockMost
@@ -113,5 +117,5 @@ minus-p-sized {m} {d} mechanism low high near =
     let l = distance-limits 0 (omega arith) .sizes in
     let s = effective-sized (squares near (l .shallow) (l .deep)) in
     let a = rock-sized pgaMagnitude mechanism l (term-small mechanism (omega arith) low high) high s in
-    let o = pga-order mechanism (effectiveOf d (pga .distance .h)) l low high in
+    let o = pga-order mechanism (effectiveOf d (pga .distance .h)) l high in
     omega (arith, a, o)

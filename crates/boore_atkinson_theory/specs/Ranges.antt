@@ -1,7 +1,7 @@
 -- Where the medians by any row lie, and how far those by two rows are apart, in units of 10^-9; and what each row's
 -- parts add up to, which proofs/Ranges shows it by.
 use mathlib.Core.List.{List, [], _∷_}
-use Prim.Native.Nat.{ℕ, _+_, _*_}
+use Prim.Native.Nat.{ℕ, _+_, _*_, _-_}
 use Rattle.interval_theory.specs.Bound.{Bound, size, multipleBound, sumBound, Ranges, Near}
 use Rattle.logarithm_theory.specs.Promise.{lnWidth}
 use Rattle.logarithm_theory.specs.Bound.{lnMost}
@@ -10,7 +10,7 @@ use Rattle.boore_atkinson_theory.specs.declared.SiteRow.{SiteRow}
 use Rattle.boore_atkinson_theory.specs.declared.DistanceRow.{DistanceRow}
 use Rattle.boore_atkinson_theory.specs.Tables.{Row}
 use Rattle.boore_atkinson_theory.specs.Rows.{rowAt, siteParts, distanceParts}
-use Rattle.boore_atkinson_theory.specs.Evaluation.{spreadOf, medianPairOf}
+use Rattle.boore_atkinson_theory.specs.Evaluation.{medianPairOf}
 use Rattle.boore_atkinson_theory.specs.Sizes.{kmMost, vs30Most, nonlinearMost, nonlinearGain, termMost}
 
 -- from −18 to 2: from −11.50, at 10 s, M 5.00, 199.99 km, 1300 m/s and code 1, to 0.44, at 0.3 s, M 8.00, 0 km, 300 m/s
@@ -36,10 +36,13 @@ RowsNear j k m d v mechanism =
 
 -- ---- the parts of a row
 
--- the loss of the distance term, and the linear part
-abbrev pub fallBound : DistanceRow → ℕ → Bound
-fallBound r m =
-    sumBound (multipleBound (spreadOf r m) (size lnWidth lnMost)) (multipleBound (200 * r .3) (size 78 kmMost))
+-- the loss of the distance term, for magnitudes from low to high, and the linear part
+abbrev pub spreadMost : DistanceRow → ℕ → ℕ → ℕ
+spreadMost r low high = 100 * r .0 + r .2 * (high - 450) - r .1 * (low - 450)
+
+abbrev pub fallBound : DistanceRow → ℕ → ℕ → Bound
+fallBound r low high =
+    sumBound (multipleBound (spreadMost r low high) (size lnWidth lnMost)) (multipleBound (200 * r .3) (size 78 kmMost))
 
 abbrev pub linearBound : SiteRow → Bound
 linearBound s = multipleBound (20_000 * s .0) (size lnWidth vs30Most)
@@ -48,12 +51,12 @@ linearBound s = multipleBound (20_000 * s .0) (size lnWidth vs30Most)
 abbrev pub added : Row → ℕ
 added r = 10_000 * distanceParts (r .distance) .3 + linearBound (siteParts (r .site)) .most + nonlinearGain
 
-abbrev pub taken : Row → ℕ → ℕ
-taken r m =
-    fallBound (distanceParts (r .distance)) m .most + linearBound (siteParts (r .site)) .most + nonlinearMost
+abbrev pub taken : Row → ℕ → ℕ → ℕ
+taken r low high =
+    fallBound (distanceParts (r .distance)) low high .most + linearBound (siteParts (r .site)) .most + nonlinearMost
 
--- what is tested of the magnitude term e by a row, for a magnitude: each limit as two numbers in order
-abbrev pub termLimits : Row → ℕ → Exact → List (ℕ × ℕ)
-termLimits r m e =
-    (e .gain, termMost) ∷ (e .loss, termMost) ∷
-    (e .gain + added r, e .loss + medianMost) ∷ (e .loss + taken r m, e .gain + medianLeast) ∷ []
+-- what is tested of the magnitude terms e at low and f at high, by a row: each limit as two numbers in order
+abbrev pub termLimits : Row → ℕ → ℕ → Exact → Exact → List (ℕ × ℕ)
+termLimits r low high e f =
+    (f .gain, termMost) ∷ (e .loss, termMost) ∷
+    (f .gain + added r, f .loss + medianMost) ∷ (e .loss + taken r low high, e .gain + medianLeast) ∷ []

@@ -14,7 +14,7 @@ order c =
     let at-pga = c .before .before .before .before in
     let start = at-pga .before in
     rw (c .rock .ensures .0, c .before .pga-magnitude .ensures .0)
-    (pga-order (start .args .mechanism) _ (at-pga .pga-distance .ensures .1) (start .pre .0) (start .pre .1))
+    (pga-order (start .args .mechanism) _ (at-pga .pga-distance .ensures .1) (start .pre .1))
 
 returns : tie.Need-returns
 unfolding minusPOf
