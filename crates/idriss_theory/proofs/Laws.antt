@@ -57,7 +57,7 @@ module _ (isTable3 : Bool) {k m d v : ℕ} (mechanism : ℕ) (h : MedianDomain k
       let s = site-domain (h .slow) in
       let ten = over-Is (pos 10) 1 (omega arith) in
       let far-ln = lnQ-is (is-natural (d + 1_000) (add-Is (hundredths-Is d) ten) (omega arith)) in
-      let site-ln = lnQ-is (over-Is (pos (min v vs30Cap)) 10 (omega arith)) in
+      let site-ln = lnQ-is (over-Is (pos (min v 12_000)) 10 (omega arith)) in
       let rest = add-Is (over-Is (pos 85) 10 (omega arith)) (neg-Is (hundredths-Is m)) in
       let i = is-natural (10 * (850 - m)) rest (omega (arith, h .magnitude-high)) in
       -- α1 + α2 M + α3 (8.5 − M)²

@@ -7,7 +7,7 @@ use lib.IntN.{pos}
 use Rattle.toolbox_theory.specs.Whole.{up, down}
 use Rattle.toolbox_theory.proofs.Tests.{by-test}
 use Rattle.exact_theory.specs.Fraction.{_over_, _*q_}
-use Rattle.exact_theory.specs.Formula.{ends}
+use Rattle.exact_theory.specs.Formula.{ln, lnQ, ends}
 use Rattle.exact_theory.proofs.FractionLaws.{over-Is, mul-Is}
 use Rattle.exact_theory.proofs.Points.{Points, value, Sound, lnQ-is}
 use Rattle.exact_theory.proofs.UnitLaws.{lies-natural, lies-negated, lies-stated, lies-wider, lies-sum}
@@ -74,7 +74,7 @@ module _ (period magnitude : ℕ) (d : SigmaDomain period) where
   unfolding sigma Sound value sigmaPairOf sumOf up down
   sigmaPairOf-at-points =
       let m = clampedMagnitude magnitude in
-      let period-ln = lnQ-is (over-Is (pos t) 1_000 (omega arith)) in
+      let period-ln : (t : ℕ) → lnQ (pos t over 1_000) ≡ ln t 1_000 = λ t. lnQ-is (over-Is (pos t) 1_000 (omega arith)) in
       let constant = lies-stated (over-Is (pos 118) 100 (omega arith)) constantTerm 0 (omega arith) in
       let six = mul-Is (over-Is (pos 6) 100 (omega arith)) (over-Is (pos m) 100 (omega arith)) in
       let rest = lies-stated six (magnitudeTermOf m) 0 (omega arith) in

@@ -62,8 +62,10 @@ module _ {c m : ℕ} (few : c ≤ m) {e : Ends} {β : Bound} (z : Within e β) w
   multiple-within =
       let far : c * e .high ≤ c * e .low + m * β .width =
       omega (arith, mul-le-mul-left c (z .narrow), mul-le-mul-right (β .width) few) in
+      let d =
       divided _ _ _ 0 _ scale (omega arith) (mul-le-mul-left c (z .order)) far (omega arith)
-      (mul-le-mul few (z .most))
+      (mul-le-mul few (z .most)) in
+      omega arith
 
 -- ---- products
 
@@ -85,8 +87,10 @@ module _ {x y : Ends} {α β : Bound} (p : Within x α) (q : Within y β) where
   pub product-within : Within (productOf x y) (productBound α β)
   unfolding productOf
   product-within =
+      let d =
       divided _ _ _ _ _ unit (omega arith) (mul-le-mul (p .order) (q .order)) apart (mul-le-mul (p .least) (q .least))
-      (mul-le-mul (p .most) (q .most))
+      (mul-le-mul (p .most) (q .most)) in
+      omega arith
 
   -- ---- sums and hulls
 
