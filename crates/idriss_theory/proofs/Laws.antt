@@ -23,7 +23,7 @@ use Rattle.idriss_theory.specs.Tables.{Row}
 use Rattle.idriss_theory.specs.Rows.{rowAt, parts, TableLimits}
 use Rattle.idriss_theory.specs.Median.{alphaPart, betaFactor, F, median}
 use Rattle.idriss_theory.specs.Promise.{MedianDomain, medianWidth, MedianEnds}
-use Rattle.idriss_theory.specs.Evaluation.{alphaSum, betaOf, gainsOf, lossesOf, vs30Cap}
+use Rattle.idriss_theory.specs.Evaluation.{alphaSum, betaOf, gainsOf, lossesOf}
 use Rattle.idriss_theory.specs.Evaluation.{distanceTermOf, siteTermOf, medianPairBy, medianPairOf, medianOf}
 use Rattle.idriss_theory.specs.Sizes.{exactMost, pairMost}
 use Rattle.idriss_theory.proofs.Rows.{row-limits}

@@ -74,7 +74,8 @@ module _ (period magnitude : ℕ) (d : SigmaDomain period) where
   unfolding sigma Sound value sigmaPairOf sumOf up down
   sigmaPairOf-at-points =
       let m = clampedMagnitude magnitude in
-      let period-ln : (t : ℕ) → lnQ (pos t over 1_000) ≡ ln t 1_000 = λ t. lnQ-is (over-Is (pos t) 1_000 (omega arith)) in
+      let period-ln : (t : ℕ) → lnQ (pos t over 1_000) ≡ ln t 1_000 =
+      λ t. lnQ-is (over-Is (pos t) 1_000 (omega arith)) in
       let constant = lies-stated (over-Is (pos 118) 100 (omega arith)) constantTerm 0 (omega arith) in
       let six = mul-Is (over-Is (pos 6) 100 (omega arith)) (over-Is (pos m) 100 (omega arith)) in
       let rest = lies-stated six (magnitudeTermOf m) 0 (omega arith) in
