@@ -9,7 +9,8 @@ use borrow.Author.Tests.{ne-eqb}
 use lib.Dec.{T, eqb, ltb, ltb→lt, eqb→eq}
 use lib.ListN.{length}
 use Rattle.toolbox_theory.specs.Lists.{among, countBelow}
-use Rattle.toolbox_theory.proofs.ListLaws.{Missed, earlier, missed, all, all-at}
+use Rattle.toolbox_theory.proofs.Tests.{both, by-test}
+use Rattle.toolbox_theory.proofs.ListLaws.{Missed, earlier, missed, all, all-at, rising, between-places}
 use Rattle.scenario_theory.specs.declared.Scenario.{Scenario}
 use Rattle.scenario_theory.specs.declared.Check.{Check}
 use Rattle.scenario_theory.specs.declared.Check.the-variants as C
@@ -17,7 +18,7 @@ use Rattle.scenario_theory.specs.declared.Place.{Place}
 use Rattle.scenario_theory.specs.declared.Place.the-variants as P
 use Rattle.scenario_theory.specs.Checks.{beyond, _when_, _otherwise_}
 use Rattle.scenario_theory.specs.Refusal.{Limits, idriss, booreAtkinson, refusalBy, refusalOf}
-use Rattle.scenario_theory.specs.Rows.{Looked, isRow, rowIn, checkAt, checkBy, checkOf, idrissRow}
+use Rattle.scenario_theory.specs.Rows.{Looked, BetweenRows, isRow, rowIn, checkAt, checkBy, checkOf, idrissRow}
 use Rattle.scenario_theory.specs.Rows.{booreAtkinsonRow, rowCount, placeAmong, idrissPlace, booreAtkinsonPlace}
 use Rattle.scenario_theory.proofs.CheckLaws.{first-of-three, same-unless, unless-is}
 use Rattle.scenario_theory.proofs.RefusalLaws.{within}
@@ -81,6 +82,39 @@ pub boore-atkinson-placed : (period : ℕ) {p : Place} → p ≡ booreAtkinsonPl
     Placed (booreAtkinson .periods) booreAtkinsonRow period p
 unfolding booreAtkinsonPlace placeAmong countBelow booreAtkinsonRow
 boore-atkinson-placed period e = rw e (placed 1 (booreAtkinson .periods) booreAtkinsonRow tt period)
+
+-- a period that is placed between two rows lies there
+module _ (first : ℕ) (periods : List ℕ) (rises : T (rising periods)) (t k : ℕ) where
+  abbrev n : ℕ
+  n = countBelow periods t
+
+  between-by : (a b : Bool) → among periods t ≡ a → (ltb 0 n && ltb n (length periods)) ≡ b →
+      cond a (P.Row (first + n)) (cond b (P.Between (first + n - 1)) P.Outside) ≡ P.Between k →
+      BetweenRows first periods t k
+  between-by true b p q e = let z : _≡_ {A = ℕ} 0 1 = cc in absurd (omega arith)
+  between-by false false p q e = let z : _≡_ {A = ℕ} 0 1 = cc in absurd (omega arith)
+  between-by false true p q e =
+      let same : first + n - 1 ≡ k = cc in
+      let some = both (ltb 0 n) (ltb n (length periods)) (rw q tt) in
+      let low = ltb→lt 0 n (some .0) in
+      let high = ltb→lt n (length periods) (some .1) in
+      let r = between-places periods t (k - first) rises p (omega arith) (omega arith) in
+      record { above = r .0; below = r .1 }
+
+  between : place first periods t ≡ P.Between k → BetweenRows first periods t k
+  unfolding placeAmong
+  between =
+      by-test (eqb t 0) (λ p. p ≡ P.Between k → BetweenRows first periods t k)
+      (λ _ e. let z : _≡_ {A = ℕ} 0 1 = cc in absurd (omega arith)) (λ _. between-by _ _ refl refl)
+
+pub idriss-between : (t k : ℕ) → idrissPlace t ≡ P.Between k → BetweenRows 0 (idriss .periods) t k
+unfolding idrissPlace
+idriss-between = between 0 (idriss .periods) tt
+
+pub boore-atkinson-between : (t k : ℕ) → booreAtkinsonPlace t ≡ P.Between k →
+    BetweenRows 1 (booreAtkinson .periods) t k
+unfolding booreAtkinsonPlace
+boore-atkinson-between = between 1 (booreAtkinson .periods) tt
 
 -- Boore-Atkinson's periods are Idriss's without 40, the fourth
 fourth-first : (a b c d rest : ℕ) → a + (b + (c + (d + rest))) ≡ d + (a + (b + (c + rest)))

@@ -2,9 +2,9 @@
 use mathlib.Core.Path.{_≡_}
 use mathlib.Core.Bool.{Bool, true, false, not, cond, _&&_}
 use mathlib.Core.List.{List, _∷_}
-use Prim.Native.Nat.{ℕ, _+_, _-_}
+use Prim.Native.Nat.{ℕ, _+_, _-_, _<_}
 use lib.Dec.{eqb, ltb}
-use lib.ListN.{length}
+use lib.ListN.{length, getD}
 use Rattle.toolbox_theory.specs.Lists.{among, placeIn, countBelow}
 use Rattle.scenario_theory.specs.declared.Scenario.{Scenario}
 use Rattle.scenario_theory.specs.declared.Place.{Place}
@@ -38,6 +38,11 @@ placeAmong first periods T =
     let n : ℕ = countBelow periods T in
     cond (among periods T) (P.Row (first + n))
     (cond (ltb 0 n && ltb n (length periods)) (P.Between (first + n - 1)) P.Outside)
+
+-- what `Between` says: T lies between the periods of row k and the next (shown in proofs/RowLaws)
+pub record BetweenRows (first : ℕ) (periods : List ℕ) (T k : ℕ) : Type 0 where
+  pub above : getD periods (k - first) 0 < T
+  pub below : T < getD periods (k - first + 1) 0
 
 -- the row PGA, Boore-Atkinson's row 0, is no neighbour of any period
 unfoldable pub idrissPlace : ℕ → Place

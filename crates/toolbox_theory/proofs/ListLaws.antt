@@ -4,9 +4,10 @@ use mathlib.Core.Bool.{false≢true, Bool, true, false, _&&_, _||_, cond}
 use mathlib.Core.Logic.{_⊎_, inl, inr}
 use mathlib.Core.List.{List, [], _∷_, map}
 use Prim.Native.Nat.{ℕ, zero, suc, _+_, _≤_, _<_}
+use native.Mathlib.Decide.{decLt}
 use native.Mathlib.Omega.{arith}
-use borrow.Author.Tests.{ne-eqb, eqb-true, lt-ltb, le-ltb}
-use lib.Dec.{T, eqb, ltb, leb, leb→le, eqb→eq}
+use borrow.Author.Tests.{eq-eqb, ne-eqb, eqb-true, lt-ltb, le-ltb}
+use lib.Dec.{T, eqb, ltb, leb, leb→le, ltb→lt, eqb→eq}
 use Rattle.toolbox_theory.proofs.Tests.{and-left, and-right, by-test}
 use lib.ListN.{length, getD, take}
 use Rattle.toolbox_theory.specs.Lists.{among, placeIn, countBelow, lookup}
@@ -24,6 +25,10 @@ pub missed : (before : Type 0) (l : List ℕ) (x : ℕ) → Missed before l x �
 missed before [] x m = refl
 missed before (y ∷ ys) x m =
     rw (ne-eqb x y (earlier (before × (x ≡ y → ⊥)) ys x m .1)) (missed (before × (x ≡ y → ⊥)) ys x m)
+
+or-right : (b : Bool) {c : Bool} → c ≡ true → (b || c) ≡ true
+or-right true e = refl
+or-right false e = e
 
 or-cases : (b c : Bool) → (b || c) ≡ true → (b ≡ true) ⊎ (c ≡ true)
 or-cases true c e = inl refl
@@ -71,6 +76,62 @@ pub count-all : (l : List ℕ) (x : ℕ) → countBelow (take (length l) l) x �
 unfolding countBelow
 count-all [] x = refl
 count-all (y ∷ ys) x = ap (λ n. cond (ltb y x) 1 0 + n) (count-all ys x)
+
+-- a list that rises
+abbrev pub rising : List ℕ → Bool
+rising [] = true
+rising (y ∷ ys) = all (ltb y) ys && rising ys
+
+none-below : (l : List ℕ) {x y : ℕ} → x ≤ y → T (all (ltb y) l) → countBelow l x ≡ 0
+unfolding countBelow
+none-below [] h t = refl
+none-below (z ∷ l) {x} {y} h t =
+    let p = ltb→lt y z (and-left (ltb y z) (all (ltb y) l) t) in
+    rw (le-ltb z x (omega arith)) (omega (arith, none-below l h (and-right (ltb y z) (all (ltb y) l) t)))
+
+-- how many of y and then ys are below x
+count-of : (y : ℕ) (ys : List ℕ) (x : ℕ) → T (all (ltb y) ys) →
+    ((y < x) × (countBelow (y ∷ ys) x ≡ 1 + countBelow ys x)) ⊎
+    ((x ≤ y) × (countBelow ys x ≡ 0) × (countBelow (y ∷ ys) x ≡ 0))
+unfolding countBelow
+count-of y ys x t = elim (decLt y x) [
+  | yes p ↦ inl (p, rw (lt-ltb y x p) refl)
+  | no p ↦
+      let none = none-below ys {x = x} {y = y} (omega arith) t in
+      inr (omega arith, none, rw (le-ltb y x (omega arith), none) refl)
+]
+
+-- as many of a list that rises as are below x stand first
+pub record Around (l : List ℕ) (x i : ℕ) : Type 0 where
+  pub below : i < countBelow l x → getD l i 0 < x
+  pub above : countBelow l x ≤ i → x ≤ getD l i 0
+
+pub around : (l : List ℕ) (x : ℕ) → T (rising l) → (i : ℕ) → i < length l → Around l x i
+around [] x t i h = absurd (omega arith)
+around (y ∷ ys) x t zero h = elim (count-of y ys x (and-left (all (ltb y) ys) (rising ys) t)) [
+  | inl p ↦ record { below = λ q. p .0; above = λ q. absurd (omega arith) }
+  | inr p ↦ record { below = λ q. absurd (omega arith); above = λ q. p .0 }
+]
+around (y ∷ ys) x t (suc i) h =
+    let a = around ys x (and-right (all (ltb y) ys) (rising ys) t) i (omega arith) in
+    elim (count-of y ys x (and-left (all (ltb y) ys) (rising ys) t)) [
+      | inl p ↦ record { below = λ q. a .below (omega arith); above = λ q. a .above (omega arith) }
+      | inr p ↦ record { below = λ q. absurd (omega arith); above = λ q. a .above (omega arith) }
+    ]
+
+pub among-at : (l : List ℕ) (i : ℕ) → i < length l → among l (getD l i 0) ≡ true
+among-at [] i h = absurd (omega arith)
+among-at (y ∷ ys) zero h = rw (eq-eqb y y refl) refl
+among-at (y ∷ ys) (suc i) h = or-right (eqb (getD ys i 0) y) (among-at ys i (omega arith))
+
+-- x, which is none of them, lies between those in the places n and n + 1, where n + 1 of them are below it
+pub between-places : (l : List ℕ) (x n : ℕ) → T (rising l) → among l x ≡ false → n + 1 ≡ countBelow l x →
+    n + 1 < length l → (getD l n 0 < x) × (x < getD l (n + 1) 0)
+between-places l x n t none count h =
+    let other : x ≡ getD l (n + 1) 0 → ⊥ = λ e. false≢true (sym none ∙ rw e (among-at l (n + 1) h)) in
+    let low = around l x t n (omega arith) .below (omega arith) in
+    let high = around l x t (n + 1) h .above (omega arith) in
+    (low, omega (arith, other))
 
 -- the row that has a key is the row in the key's place
 module _ {A : Type 0} (key : A → ℕ) (none : A) where
