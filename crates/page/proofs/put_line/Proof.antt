@@ -7,7 +7,7 @@ use Rattle.enclosures_theory.proofs.Adding.{Placed, placed, then-byte}
 use Rattle.page.proofs.put_line.Statement.{statement}
 use Rattle.page.proofs.put_line.Tie as tie
 
--- and there is a place after it
+-- the line is put, and there is a place after it
 known : (c : tie.After-slice-known2) →
     let l = c .before .before in
     let a = l .before .before .before .args in
