@@ -1,18 +1,24 @@
 // The median and sigma of Boore and Atkinson 2008, each by two ends that enclose the exact value, in units of 10^-9.
 ghost use mathlib.Core.Path.{_≡_};
 ghost use mathlib.Core.Bool.{cond};
-ghost use Prim.Native.Nat.{_≤_, _<_};
+ghost use mathlib.Core.List.{_∷_};
+ghost use Prim.Native.Nat.{_+_, _≤_, _<_};
 ghost use lib.Dec.{eqb};
+ghost use Rattle.interpolation_theory.specs.Steps.{StepAt};
+ghost use Rattle.scenario_theory.specs.Refusal.{booreAtkinson};
 ghost use Rattle.scenario_theory.specs.Rows.{rowCount};
 ghost use Rattle.boore_atkinson_theory.specs.Rows.{rowAt, totalAt};
 ghost use Rattle.boore_atkinson_theory.specs.Promise.{MedianDomain, MedianEnds, NonlinearDomain, NonlinearEnds};
-ghost use Rattle.boore_atkinson_theory.specs.Promise.{SigmaEnds};
+ghost use Rattle.boore_atkinson_theory.specs.Promise.{MedianBetweenEnds, SigmaEnds, SigmaBetweenEnds};
 ghost use Rattle.boore_atkinson_theory.specs.Evaluation.{vs30LnOf, minusPFor, medianPairOf, medianOf, nonlinearEndsOf};
-ghost use Rattle.boore_atkinson_theory.specs.Evaluation.{sigmaOf};
+ghost use Rattle.boore_atkinson_theory.specs.Evaluation.{medianBetweenOf, exactPair, sigmaPairOf, sigmaOf};
+ghost use Rattle.boore_atkinson_theory.specs.Evaluation.{sigmaBetweenOf};
 use boore_atkinson_rock as rock;
 use boore_atkinson_site as site;
 use boore_atkinson_tables as table;
 use boore_atkinson_theory::TotalRow;
+use interpolation::interpolated;
+use interpolation_theory::Step;
 use interval::between;
 use interval::ends;
 use interval::plus;
@@ -64,6 +70,33 @@ pub fn median(
     ends(median_by_row(k, m, d, v, l, b, mechanism))
 }
 
+// The median between row k, which is not PGA, and the next, by the step from one to the other.
+pub fn median_between(
+    k: usize,
+    magnitude: u16,
+    projection_distance: u16,
+    vs30: u16,
+    mechanism: u8,
+    s: Step,
+) -> SignedEnds
+    requires { ⌜ MedianDomain (k + 1) magnitude «projection_distance» vs30 ⌝ }
+    requires { ⌜ (1 ≤ k) × StepAt (0 ∷ booreAtkinson .periods) k s ⌝ }
+    ensures { λ r. ⌜ r ≡ medianBetweenOf (rowAt k) (rowAt (k + 1)) s magnitude «projection_distance» vs30 mechanism ⌝ }
+    ensures { λ r. ⌜ MedianBetweenEnds (rowAt k) (rowAt (k + 1)) s magnitude «projection_distance» vs30 mechanism r ⌝ }
+{
+    let m = magnitude as u64;
+    let d = projection_distance as u64;
+    let v = vs30 as u64;
+    let b = rock::minus_p_for(v, m, d, mechanism);
+    let l = site::vs30_ln(v);
+    interpolated(
+        median_by_row(k, m, d, v, l, b, mechanism),
+        median_by_row(k + 1, m, d, v, l, b, mechanism),
+        s.part,
+        s.whole,
+    )
+}
+
 // The nonlinear part by row k, where −p lies in b.
 pub fn nonlinear(k: usize, vs30: u16, b: Ends) -> SignedEnds
     requires { ⌜ NonlinearDomain k vs30 b ⌝ }
@@ -84,12 +117,43 @@ fn total(t: TotalRow, mechanism: u8) -> u32
     t.1
 }
 
+// Sigma by row k, in units of 10^-9.
+fn sigma_by_row(k: usize, mechanism: u8) -> u64
+    requires { ⌜ k < rowCount ⌝ }
+    ensures { λ r. ⌜ (sigmaPairOf (totalAt k) mechanism ≡ exactPair r) × (r ≤ 1_000_000_000) ⌝ }
+{
+    1_000_000 * total(table::total_at(k), mechanism) as u64
+}
+
 // Sigma by row k.
 pub fn sigma(k: usize, mechanism: u8) -> SignedEnds
     requires { ⌜ k < rowCount ⌝ }
     ensures { λ r. ⌜ r ≡ sigmaOf (totalAt k) mechanism ⌝ }
     ensures { λ r. ⌜ SigmaEnds (totalAt k) mechanism r ⌝ }
 {
-    let z = 1_000_000 * total(table::total_at(k), mechanism) as u64;
+    let z = sigma_by_row(k, mechanism);
     between(z, 0, z, 0)
+}
+
+fn exact_pair(n: u64) -> SignedPair
+    ensures { λ a. ⌜ a ≡ exactPair n ⌝ }
+{
+    SignedPair {
+        gain: Ends { low: n, high: n },
+        loss: Ends { low: 0, high: 0 },
+    }
+}
+
+// Sigma between row k, which is not PGA, and the next, by the step from one to the other.
+pub fn sigma_between(k: usize, mechanism: u8, s: Step) -> SignedEnds
+    requires { ⌜ (1 ≤ k) × (k + 1 < rowCount) × StepAt (0 ∷ booreAtkinson .periods) k s ⌝ }
+    ensures { λ r. ⌜ r ≡ sigmaBetweenOf (totalAt k) (totalAt (k + 1)) s mechanism ⌝ }
+    ensures { λ r. ⌜ SigmaBetweenEnds (totalAt k) (totalAt (k + 1)) s mechanism r ⌝ }
+{
+    interpolated(
+        exact_pair(sigma_by_row(k, mechanism)),
+        exact_pair(sigma_by_row(k + 1, mechanism)),
+        s.part,
+        s.whole,
+    )
 }

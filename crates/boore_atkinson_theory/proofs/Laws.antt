@@ -15,7 +15,7 @@ use Rattle.exact_theory.proofs.UnitLaws.{lies-wider, lies-stated}
 use Rattle.interval_theory.specs.declared.Ends.{Ends}
 use Rattle.interval_theory.specs.declared.SignedPair.{SignedPair}
 use Rattle.interval_theory.specs.Signed.{betweenOf, endsOf}
-use Rattle.interval_theory.specs.Bound.{size, SignedSized}
+use Rattle.interval_theory.specs.Bound.{SignedSized}
 use Rattle.interval_theory.proofs.SignedBounds.{signed-wider, plus-within, ends-narrow, ends-small}
 use Rattle.interval_theory.proofs.NaturalValues.{HeldBelow}
 use Rattle.interval_theory.proofs.SignedValues.{plus-lies}
@@ -179,17 +179,22 @@ module _ (k mechanism : ℕ) (h : k < rowCount) where
   abbrev own-sigma : SignedPair
   own-sigma = sigmaPairOf (totalAt k) mechanism
 
+  pub sigmaPairOf-at-points : PairAtPoints (sigma (totalAt k) mechanism) own-sigma
+  unfolding sigma sigmaPairOf Sound value
+  sigmaPairOf-at-points =
+      let lies = lies-stated (total-Is .0) (1_000_000 * own) 0 (omega arith) in
+      record { sound = tt; held = λ σ known. lies-wider lies _ _ _ _ (omega arith) (omega arith) }
+
+  pub sigmaPairOf-sized : SignedSized own-sigma 0 1_000_000_000
+  unfolding sigmaPairOf
+  sigmaPairOf-sized = omega (arith, total-Is .1)
+
   -- at points, as of the median
   pub sigmaOf-at-points :
       let e = sigmaOf (totalAt k) mechanism in
       AtPoints (sigma (totalAt k) mechanism) (ends (e .low) (e .high))
-  unfolding sigmaOf sigma sigmaPairOf Sound value
-  sigmaOf-at-points =
-      let lies = lies-stated (total-Is .0) (1_000_000 * own) 0 (omega arith) in
-      at-ends own-sigma record {
-        sound = tt;
-        held = λ σ known. lies-wider lies _ _ _ _ (omega arith) (omega arith);
-      }
+  unfolding sigmaOf
+  sigmaOf-at-points = at-ends own-sigma sigmaPairOf-at-points
 
   -- the promise of sigma, by any row of the table
   pub sigmaOf-promise : SigmaEnds (totalAt k) mechanism (sigmaOf (totalAt k) mechanism)
@@ -197,5 +202,5 @@ module _ (k mechanism : ℕ) (h : k < rowCount) where
   sigmaOf-promise = record {
     encloses = encloses sigmaOf-at-points;
     equal = refl;
-    small = ends-small own-sigma {β = size 0 1_000_000_000} (2 ^ 53) (omega (arith, total-Is .1)) (omega arith);
+    small = ends-small own-sigma (2 ^ 53) sigmaPairOf-sized (omega arith);
   }

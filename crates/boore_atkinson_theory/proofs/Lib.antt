@@ -11,3 +11,4 @@ pub mod Sums
 pub mod Thresholds
 pub mod Accepted
 pub mod Ranges
+pub mod Between

@@ -9,6 +9,8 @@ use Rattle.interval_theory.specs.declared.SignedPair.{SignedPair}
 use Rattle.interval_theory.specs.Signed.{endsOf, plusOf}
 use Rattle.interval_theory.specs.Natural.{exactly, multipleOf, productOf, sumOf, hullOf}
 use Rattle.logarithm_theory.specs.Evaluation.{lnOf, rootOf}
+use Rattle.interpolation_theory.specs.declared.Step.{Step}
+use Rattle.interpolation_theory.specs.Evaluation.{interpolatedOf}
 use Rattle.boore_atkinson_theory.specs.declared.EffectiveDistance.{EffectiveDistance}
 use Rattle.boore_atkinson_theory.specs.declared.Exact.{Exact}
 use Rattle.boore_atkinson_theory.specs.declared.SiteRow.{SiteRow}
@@ -148,15 +150,25 @@ medianPairOf r m d v mechanism =
 unfoldable pub medianOf : Row → ℕ → ℕ → ℕ → ℕ → SignedEnds
 medianOf r m d v mechanism = endsOf (medianPairOf r m d v mechanism)
 
+-- between two rows, by the logarithms of a step from one to the other
+unfoldable pub medianBetweenOf : Row → Row → Step → ℕ → ℕ → ℕ → ℕ → SignedEnds
+medianBetweenOf r q s m d v mechanism =
+    interpolatedOf (medianPairOf r m d v mechanism) (medianPairOf q m d v mechanism) (s .part) (s .whole)
+
 unfoldable pub nonlinearEndsOf : SiteAmplification → ℕ → Ends → SignedEnds
 nonlinearEndsOf s v b = endsOf (nonlinearOf (siteParts s) v b)
 
+-- equal ends that are not below zero, as a gain
+abbrev pub exactPair : ℕ → SignedPair
+exactPair n = record { gain = exactly n; loss = exactly 0 }
+
 unfoldable pub sigmaPairOf : Total → ℕ → SignedPair
 sigmaPairOf t mechanism =
-    record {
-      gain = exactly (1_000_000 * cond (eqb mechanism 9) (totalParts t .0) (totalParts t .1));
-      loss = exactly 0;
-    }
+    exactPair (1_000_000 * cond (eqb mechanism 9) (totalParts t .0) (totalParts t .1))
 
 unfoldable pub sigmaOf : Total → ℕ → SignedEnds
 sigmaOf t mechanism = endsOf (sigmaPairOf t mechanism)
+
+unfoldable pub sigmaBetweenOf : Total → Total → Step → ℕ → SignedEnds
+sigmaBetweenOf t u s mechanism =
+    interpolatedOf (sigmaPairOf t mechanism) (sigmaPairOf u mechanism) (s .part) (s .whole)

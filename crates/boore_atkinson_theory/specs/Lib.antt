@@ -6,6 +6,6 @@ pub mod Median
 pub mod Constants
 pub mod Rows
 pub mod Evaluation
+pub mod Ranges
 pub mod Promise
 pub mod Sizes
-pub mod Ranges

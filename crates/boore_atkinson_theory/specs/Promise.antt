@@ -10,11 +10,15 @@ use Rattle.exact_theory.specs.Formula.{stated, ends, Encloses}
 use Rattle.interval_theory.specs.declared.SignedEnds.{SignedEnds}
 use Rattle.interval_theory.specs.declared.Ends.{Ends}
 use Rattle.interval_theory.specs.Signed.{SmallerThan}
+use Rattle.interpolation_theory.specs.declared.Step.{Step}
+use Rattle.interpolation_theory.specs.Between.{between}
+use Rattle.interpolation_theory.specs.Promise.{BetweenEnds}
 use Rattle.scenario_theory.specs.Refusal.{booreAtkinson}
 use Rattle.scenario_theory.specs.Rows.{rowCount}
 use Rattle.boore_atkinson_theory.specs.Tables.{SiteAmplification, Total, Row}
 use Rattle.boore_atkinson_theory.specs.SiteTerm.{bnl, nonlinearPart}
 use Rattle.boore_atkinson_theory.specs.Median.{median, sigma}
+use Rattle.boore_atkinson_theory.specs.Ranges.{medianLeast, medianMost}
 
 -- the arguments of the median: a row of the tables, and numbers within the limits of the model
 pub record MedianDomain (k magnitude projectionDistance vs30 : ℕ) : Type 0 where
@@ -35,6 +39,14 @@ pub record NonlinearDomain (k vs30 : ℕ) (b : Ends) : Type 0 where
 -- how far the ends of the median are apart at most; demand 3 allows 2,000
 abbrev pub medianWidth : ℕ
 medianWidth = 49
+
+-- and between two rows; W-201 allows 4,000, and W-211 1,000
+abbrev pub betweenWidth : ℕ
+betweenWidth = 1_000
+
+-- and those of sigma there; W-201 allows 20, and W-211 10
+abbrev pub sigmaBetweenWidth : ℕ
+sigmaBetweenWidth = 5
 
 -- how far the ends of p are apart at most, and those of the nonlinear part where p's are
 abbrev pub rockWidth : ℕ
@@ -62,3 +74,16 @@ pub record SigmaEnds (t : Total) (mechanism : ℕ) (e : SignedEnds) : Type 0 whe
   pub encloses : Encloses (ends (e .low) (e .high)) (sigma t mechanism)
   pub equal : e .high ≡ e .low
   pub small : SmallerThan (2 ^ 53) e
+
+-- e encloses the median between the rows r and q, at every fineness, is narrow, and lies where the medians by rows do,
+-- but for 1,000 units
+abbrev pub MedianBetweenEnds : Row → Row → Step → ℕ → ℕ → ℕ → ℕ → SignedEnds → Type 0
+MedianBetweenEnds r q s magnitude projectionDistance vs30 mechanism e =
+    BetweenEnds (between (s .period) (s .lower) (s .upper) (median r magnitude projectionDistance vs30 mechanism)
+    (median q magnitude projectionDistance vs30 mechanism)) betweenWidth (medianLeast + 1_000) (medianMost + 1_000) e
+
+-- and sigma "goes the same way" (W-201)
+abbrev pub SigmaBetweenEnds : Total → Total → Step → ℕ → SignedEnds → Type 0
+SigmaBetweenEnds t u s mechanism e =
+    BetweenEnds (between (s .period) (s .lower) (s .upper) (sigma t mechanism) (sigma u mechanism)) sigmaBetweenWidth
+    100 1_000_000_100 e

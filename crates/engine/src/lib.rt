@@ -3,7 +3,8 @@
 ghost use mathlib.Core.Path.{_≡_};
 ghost use Prim.Native.Nat.{_^_, _<_};
 ghost use lib.IntN.{natAbs};
-ghost use Rattle.scenario_theory.specs.Refusal.{refusalOf};
+ghost use Rattle.scenario_theory.specs.declared.Place.the-variants as P;
+ghost use Rattle.scenario_theory.specs.Refusal.{idriss, booreAtkinson, refusalOf};
 ghost use Rattle.scenario_theory.specs.Rows.{idrissRow, booreAtkinsonRow, Looked};
 ghost use Rattle.record_theory.specs.Outcome.{scenarioIn, readRefusal};
 ghost use Rattle.engine_theory.specs.Promise.{AnswerPromise, NextPromise, DoublesPromise};
@@ -15,33 +16,95 @@ pub use engine_theory::Doubles;
 pub use engine_theory::DoublesAnswer;
 pub use engine_theory::Enclosure;
 pub use engine_theory::NextAnswer;
-use record_theory::RowReading;
+use record_theory::PlacedReading;
+use scenario_rows::boore_atkinson_period;
+use scenario_rows::idriss_period;
 use scenario_theory::Check;
+use scenario_theory::Place;
 use scenario_theory::Scenario;
 
-fn by_idriss(s: Scenario, k: usize) -> Enclosure
-    requires { ⌜ TakenBy 1 idrissRow s k ⌝ }
+// By Idriss, between row k and the next.
+fn between_idriss(s: Scenario, k: usize) -> Enclosure
+    requires { ⌜ TakenBy 1 idriss idrissRow s (P.Between k) ⌝ }
     ensures { λ r. ⌜ r ≡ enclosureOf s ⌝ }
 {
+    let step = interpolation::step(idriss_period(k), s.period, idriss_period(k + 1));
     let table_3 = idriss::takes_table_3(s.magnitude);
     Enclosure {
-        median: idriss::median(table_3, k, s.magnitude, s.distance, s.velocity, s.mechanism),
-        sigma: idriss::sigma(k, s.period, s.magnitude),
+        median: idriss::median_between(
+            table_3,
+            k,
+            s.magnitude,
+            s.distance,
+            s.velocity,
+            s.mechanism,
+            step,
+        ),
+        sigma: idriss::sigma_between(s.period, s.magnitude),
     }
 }
 
-fn by_boore_atkinson(s: Scenario, k: usize) -> Enclosure
-    requires { ⌜ TakenBy 2 booreAtkinsonRow s k ⌝ }
+fn by_idriss(s: Scenario, place: Place) -> Enclosure
+    requires { ⌜ TakenBy 1 idriss idrissRow s place ⌝ }
     ensures { λ r. ⌜ r ≡ enclosureOf s ⌝ }
 {
-    Enclosure {
-        median: boore_atkinson::median(k, s.magnitude, s.distance, s.velocity, s.mechanism),
-        sigma: boore_atkinson::sigma(k, s.mechanism),
+    match place {
+        Place::Row(k) => {
+            let table_3 = idriss::takes_table_3(s.magnitude);
+            Enclosure {
+                median: idriss::median(
+                    table_3,
+                    k,
+                    s.magnitude,
+                    s.distance,
+                    s.velocity,
+                    s.mechanism,
+                ),
+                sigma: idriss::sigma(k, s.period, s.magnitude),
+            }
+        }
+        Place::Between(k) => between_idriss(s, k),
     }
 }
 
-// By the scenario's own model, k the row of its period, which the checks have looked up. The fields pass in registers,
-// as a struct would be stored and read back.
+// By Boore and Atkinson, between row k and the next.
+fn between_boore_atkinson(s: Scenario, k: usize) -> Enclosure
+    requires { ⌜ TakenBy 2 booreAtkinson booreAtkinsonRow s (P.Between k) ⌝ }
+    ensures { λ r. ⌜ r ≡ enclosureOf s ⌝ }
+{
+    let step = interpolation::step(
+        boore_atkinson_period(k),
+        s.period,
+        boore_atkinson_period(k + 1),
+    );
+    Enclosure {
+        median: boore_atkinson::median_between(
+            k,
+            s.magnitude,
+            s.distance,
+            s.velocity,
+            s.mechanism,
+            step,
+        ),
+        sigma: boore_atkinson::sigma_between(k, s.mechanism, step),
+    }
+}
+
+fn by_boore_atkinson(s: Scenario, place: Place) -> Enclosure
+    requires { ⌜ TakenBy 2 booreAtkinson booreAtkinsonRow s place ⌝ }
+    ensures { λ r. ⌜ r ≡ enclosureOf s ⌝ }
+{
+    match place {
+        Place::Row(k) => Enclosure {
+            median: boore_atkinson::median(k, s.magnitude, s.distance, s.velocity, s.mechanism),
+            sigma: boore_atkinson::sigma(k, s.mechanism),
+        },
+        Place::Between(k) => between_boore_atkinson(s, k),
+    }
+}
+
+// By the scenario's own model, with the place of its period, which the checks have looked up. The fields pass in
+// registers, as a struct would be stored and read back.
 fn by_model(
     model: u8,
     magnitude: u16,
@@ -49,9 +112,9 @@ fn by_model(
     velocity: u16,
     mechanism: u8,
     period: u16,
-    k: usize,
+    place: Place,
 ) -> Enclosure
-    requires { ⌜ Looked (scenarioWith model magnitude distance velocity mechanism period) k ⌝ }
+    requires { ⌜ Looked (scenarioWith model magnitude distance velocity mechanism period) place ⌝ }
     ensures { λ r. ⌜ r ≡ enclosureOf (scenarioWith model magnitude distance velocity mechanism period) ⌝ }
 {
     let s = Scenario {
@@ -63,9 +126,9 @@ fn by_model(
         period,
     };
     if model == 1 {
-        return by_idriss(s, k);
+        return by_idriss(s, place);
     }
-    by_boore_atkinson(s, k)
+    by_boore_atkinson(s, place)
 }
 
 // Answers a scenario of any fields.
@@ -74,14 +137,14 @@ pub fn answer_fields(s: Scenario) -> Answer
     ensures { λ r. ⌜ AnswerPromise (refusalOf s) s r ⌝ }
 {
     match scenario::check(s) {
-        Check::Accepted(row) => Answer::Enclosed(by_model(
+        Check::Accepted(place) => Answer::Enclosed(by_model(
             s.model,
             s.magnitude,
             s.distance,
             s.velocity,
             s.mechanism,
             s.period,
-            row,
+            place,
         )),
         Check::Refused(k) => Answer::Refused(k),
     }
@@ -92,8 +155,8 @@ pub fn answer_next(bytes: &[u8]) -> NextAnswer
     ensures { λ r. ⌜ r ≡ nextOf (now (bytes .entry)) ⌝ }
     ensures { λ r. ⌜ NextPromise (now (bytes .entry)) r ⌝ }
 {
-    match record_reading::read_with_row(bytes) {
-        RowReading::Read(s, n, row) => NextAnswer::Enclosed(
+    match record_reading::read_with_place(bytes) {
+        PlacedReading::Read(s, n, place) => NextAnswer::Enclosed(
             by_model(
                 s.model,
                 s.magnitude,
@@ -101,11 +164,11 @@ pub fn answer_next(bytes: &[u8]) -> NextAnswer
                 s.velocity,
                 s.mechanism,
                 s.period,
-                row,
+                place,
             ),
             n,
         ),
-        RowReading::Refused(k) => NextAnswer::Refused(k),
+        PlacedReading::Refused(k) => NextAnswer::Refused(k),
     }
 }
 
@@ -145,14 +208,14 @@ pub fn answer_fields_in_doubles(s: Scenario) -> DoublesAnswer
     ensures { λ r. ⌜ DoublesPromise (refusalOf s) s (answerOf s) r ⌝ }
 {
     match scenario::check(s) {
-        Check::Accepted(row) => DoublesAnswer::Enclosed(as_doubles(by_model(
+        Check::Accepted(place) => DoublesAnswer::Enclosed(as_doubles(by_model(
             s.model,
             s.magnitude,
             s.distance,
             s.velocity,
             s.mechanism,
             s.period,
-            row,
+            place,
         ))),
         Check::Refused(k) => DoublesAnswer::Refused(k),
     }

@@ -1,5 +1,6 @@
 pub mod Exact
+pub mod RowLaws
+pub mod ModelLaws
 pub mod Laws
 pub mod RecordLaws
-pub mod RowLaws
 pub mod FlatLaws

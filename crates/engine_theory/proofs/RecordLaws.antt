@@ -4,13 +4,14 @@ use mathlib.Core.List.{List}
 use mathlib.Core.Logic.{⊎-elim}
 use Prim.Native.Nat.{ℕ}
 use Rattle.scenario_theory.specs.declared.Scenario.{Scenario}
+use Rattle.scenario_theory.specs.declared.Place.{Place}
 use Rattle.scenario_theory.specs.Refusal.{refusalOf}
 use Rattle.scenario_theory.proofs.CheckLaws.{is-refused, unless-is, of-unless}
 use Rattle.record_theory.specs.declared.Reading.the-variants.{Read, Refused}
-use Rattle.record_theory.specs.declared.RowReading.the-variants as T
+use Rattle.record_theory.specs.declared.PlacedReading.the-variants as T
 use Rattle.record_theory.specs.Outcome.{scenarioIn, readRefusal, readOf, restAt}
-use Rattle.record_theory.specs.Steps.{rowReadingOf}
-use Rattle.record_theory.proofs.ReadingLaws.{accepted, read-as, not-read, read-of, row-read}
+use Rattle.record_theory.specs.Steps.{placedReadingOf}
+use Rattle.record_theory.proofs.ReadingLaws.{accepted, read-as, not-read, read-of, placed-read}
 use Rattle.engine_theory.specs.declared.Enclosure.{Enclosure}
 use Rattle.engine_theory.specs.declared.Answer.the-variants as A
 use Rattle.engine_theory.specs.declared.NextAnswer.{NextAnswer}
@@ -26,12 +27,12 @@ module _ (s : List ℕ) where
 
   -- ---- the two cases of an answer with the record's length
 
-  pub next-enclosed : {x : Scenario} {n row : ℕ} {a : Enclosure} → rowReadingOf s ≡ T.Read x n row →
+  pub next-enclosed : {x : Scenario} {n : ℕ} {p : Place} {a : Enclosure} → placedReadingOf s ≡ T.Read x n p →
       a ≡ enclosureOf x → N.Enclosed a n ≡ nextOf s
   unfolding nextOf
-  next-enclosed {x} {n} e same = let r = read-as s x n (row-read s e .read) in cc
+  next-enclosed {x} {n} e same = let r = read-as s x n (placed-read s e .read) in cc
 
-  pub next-refused : {k : ℕ} → rowReadingOf s ≡ T.Refused k → N.Refused k ≡ nextOf s
+  pub next-refused : {k : ℕ} → placedReadingOf s ≡ T.Refused k → N.Refused k ≡ nextOf s
   unfolding nextOf
   next-refused {k} e =
       let r = not-read s k (sym (read-of s e .0)) in

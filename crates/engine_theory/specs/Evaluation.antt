@@ -1,18 +1,25 @@
 -- What the engine computes. A change of the way of computing swaps these definitions behind their names; callers go by
 -- the promises of specs/Promise, and by equal answers to equal scenarios, and never by this text.
-use Prim.Native.Nat.{ℕ, _^_}
+use mathlib.Core.Bool.{cond}
 use mathlib.Core.List.{List}
+use Prim.Native.Nat.{ℕ, _^_}
 use lib.IntN.{ℤ}
 use lib.Ieee.{Float, Format, binary64, ofInt}
+use Rattle.interval_theory.specs.declared.SignedEnds.{SignedEnds}
 use Rattle.interval_theory.specs.Signed.{SmallerThan}
+use Rattle.interpolation_theory.specs.declared.Step.{Step}
+use Rattle.interpolation_theory.specs.Steps.{stepOf}
 use Rattle.scenario_theory.specs.declared.Scenario.{Scenario}
 use Rattle.scenario_theory.specs.Checks.{unlessRefused}
-use Rattle.scenario_theory.specs.Refusal.{refusalOf}
+use Rattle.scenario_theory.specs.Refusal.{Limits, idriss, booreAtkinson, refusalOf}
+use Rattle.scenario_theory.specs.Neighbours.{isTabled, neighbourBelow, neighbourAbove}
 use Rattle.record_theory.specs.Outcome.{mapIn, scenarioIn, lengthBy, readRefusal}
-use Rattle.idriss_theory.specs.Tables.{rowFor as idrissRowFor}
+use Rattle.idriss_theory.specs.Tables.{Row, tableFor, rowIn}
 use Rattle.idriss_theory.specs.Evaluation.{medianOf as idrissMedianOf, sigmaOf as idrissSigmaOf}
-use Rattle.boore_atkinson_theory.specs.Tables.{rowFor as booreAtkinsonRowFor, totalFor as booreAtkinsonTotalFor}
+use Rattle.idriss_theory.specs.Evaluation.{medianBetweenOf as idrissMedianBetweenOf}
+use Rattle.boore_atkinson_theory.specs.Tables.{rowFor, totalFor}
 use Rattle.boore_atkinson_theory.specs.Evaluation.{medianOf as booreAtkinsonMedianOf, sigmaOf as booreAtkinsonSigmaOf}
+use Rattle.boore_atkinson_theory.specs.Evaluation.{medianBetweenOf as booreAtkinsonMedianBetweenOf, sigmaBetweenOf}
 use Rattle.engine_theory.specs.declared.Enclosure.{Enclosure}
 use Rattle.engine_theory.specs.declared.Doubles.{Doubles}
 use Rattle.engine_theory.specs.declared.Answer.{Answer}
@@ -37,19 +44,41 @@ scenarioWith model magnitude distance velocity mechanism period =
 
 -- ---- in whole numbers of units
 
+-- by the row of the period where it has one, else between two rows
+abbrev pub atPeriodOf : Limits → ℕ → (ℕ → SignedEnds) → (ℕ → ℕ → Step → SignedEnds) → SignedEnds
+atPeriodOf m T by-row between-rows =
+    let T1 : ℕ = neighbourBelow m T in
+    let T2 : ℕ = neighbourAbove m T in
+    cond (isTabled m T) (by-row T) (between-rows T1 T2 (stepOf T T1 T2))
+
+-- Idriss's median by one of its tables
+abbrev pub idrissMedianEnds : List Row → Scenario → SignedEnds
+idrissMedianEnds table s =
+    atPeriodOf idriss (s .period)
+    (λ t. idrissMedianOf (rowIn table t) (s .magnitude) (s .distance) (s .velocity) (s .mechanism))
+    (λ t u step. idrissMedianBetweenOf (rowIn table t) (rowIn table u) step (s .magnitude) (s .distance) (s .velocity)
+    (s .mechanism))
+
+abbrev pub booreAtkinsonMedianEnds : Scenario → SignedEnds
+booreAtkinsonMedianEnds s =
+    atPeriodOf booreAtkinson (s .period)
+    (λ t. booreAtkinsonMedianOf (rowFor t) (s .magnitude) (s .distance) (s .velocity) (s .mechanism))
+    (λ t u step. booreAtkinsonMedianBetweenOf (rowFor t) (rowFor u) step (s .magnitude) (s .distance) (s .velocity)
+    (s .mechanism))
+
+abbrev pub booreAtkinsonSigmaEnds : Scenario → SignedEnds
+booreAtkinsonSigmaEnds s =
+    atPeriodOf booreAtkinson (s .period) (λ t. booreAtkinsonSigmaOf (totalFor t) (s .mechanism))
+    (λ t u step. sigmaBetweenOf (totalFor t) (totalFor u) step (s .mechanism))
+
 unfoldable pub enclosureOf : Scenario → Enclosure
 enclosureOf s =
     byModel s
     record {
-      median = idrissMedianOf (idrissRowFor (s .magnitude) (s .period)) (s .magnitude) (s .distance) (s .velocity)
-          (s .mechanism);
+      median = idrissMedianEnds (tableFor (s .magnitude)) s;
       sigma = idrissSigmaOf (s .period) (s .magnitude);
     }
-    record {
-      median = booreAtkinsonMedianOf (booreAtkinsonRowFor (s .period)) (s .magnitude) (s .distance) (s .velocity)
-          (s .mechanism);
-      sigma = booreAtkinsonSigmaOf (booreAtkinsonTotalFor (s .period)) (s .mechanism);
-    }
+    record { median = booreAtkinsonMedianEnds s; sigma = booreAtkinsonSigmaEnds s }
 
 -- where k is the number of the first check that applies
 unfoldable pub answerBy : ℕ → Scenario → Answer

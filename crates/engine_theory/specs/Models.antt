@@ -1,13 +1,17 @@
 -- What the model of a scenario gives, as the papers have it, and how far apart the ends of an answer may be.
 use mathlib.Core.Bool.{cond}
-use Prim.Native.Nat.{ℕ}
+use mathlib.Core.List.{List}
+use Prim.Native.Nat.{ℕ, _*_}
 use lib.Dec.{eqb}
 use Rattle.exact_theory.specs.Formula.{Formula}
+use Rattle.interpolation_theory.specs.Between.{between}
 use Rattle.scenario_theory.specs.declared.Scenario.{Scenario}
-use Rattle.idriss_theory.specs.Tables.{rowFor as idrissRowFor}
+use Rattle.scenario_theory.specs.Refusal.{Limits, idriss, booreAtkinson}
+use Rattle.scenario_theory.specs.Neighbours.{isTabled, neighbourBelow, neighbourAbove}
+use Rattle.idriss_theory.specs.Tables.{Row, tableFor, rowIn}
 use Rattle.idriss_theory.specs.Median.{median as idrissMedian}
 use Rattle.idriss_theory.specs.Sigma.{sigma as idrissSigma}
-use Rattle.boore_atkinson_theory.specs.Tables.{rowFor as booreAtkinsonRowFor, totalFor as booreAtkinsonTotalFor}
+use Rattle.boore_atkinson_theory.specs.Tables.{rowFor, totalFor}
 use Rattle.boore_atkinson_theory.specs.Median.{median as booreAtkinsonMedian, sigma as booreAtkinsonSigma}
 
 -- x of an Idriss scenario, y of a Boore-Atkinson scenario: "model 1" and "model 2" ('The scenario'); no other model is
@@ -16,19 +20,38 @@ module _ {A : Type 0} where
   abbrev pub byModel : Scenario → A → A → A
   byModel s x y = cond (eqb (s .model) 1) x y
 
+-- what a model gives at the period T, f t being what it gives by the row of a tabled period t: "Tabled periods answer as
+-- before", any other "between the two neighbouring rows of the model" (W-201)
+abbrev pub atPeriod : Limits → ℕ → (ℕ → Formula) → Formula
+atPeriod m T f =
+    let T1 : ℕ = neighbourBelow m T in
+    let T2 : ℕ = neighbourAbove m T in
+    cond (isTabled m T) (f T) (between T T1 T2 (f T1) (f T2))
+
+-- Idriss's median by one of its tables
+abbrev pub idrissMedianBy : List Row → Scenario → Formula
+idrissMedianBy table s =
+    atPeriod idriss (s .period)
+    (λ t. idrissMedian (rowIn table t) (s .magnitude) (s .distance) (s .velocity) (s .mechanism))
+
+-- and Boore-Atkinson's
+abbrev pub booreAtkinsonMedianBy : Scenario → Formula
+booreAtkinsonMedianBy s =
+    atPeriod booreAtkinson (s .period)
+    (λ t. booreAtkinsonMedian (rowFor t) (s .magnitude) (s .distance) (s .velocity) (s .mechanism))
+
 -- "the exact natural logarithm that the model gives with its printed coefficients" (demand 3)
 unfoldable pub median : Scenario → Formula
-median s =
-    byModel s
-    (idrissMedian (idrissRowFor (s .magnitude) (s .period)) (s .magnitude) (s .distance) (s .velocity) (s .mechanism))
-    (booreAtkinsonMedian (booreAtkinsonRowFor (s .period)) (s .magnitude) (s .distance) (s .velocity) (s .mechanism))
+median s = byModel s (idrissMedianBy (tableFor (s .magnitude)) s) (booreAtkinsonMedianBy s)
 
--- "the model's exact sigma" (demand 3)
+-- "Sigma of Boore-Atkinson goes the same way" (W-201)
+abbrev pub booreAtkinsonSigmaBy : Scenario → Formula
+booreAtkinsonSigmaBy s =
+    atPeriod booreAtkinson (s .period) (λ t. booreAtkinsonSigma (totalFor t) (s .mechanism))
+
+-- "the model's exact sigma" (demand 3); "sigma of Idriss uses T itself" (W-201)
 unfoldable pub sigma : Scenario → Formula
-sigma s =
-    byModel s
-    (idrissSigma (s .period) (s .magnitude))
-    (booreAtkinsonSigma (booreAtkinsonTotalFor (s .period)) (s .mechanism))
+sigma s = byModel s (idrissSigma (s .period) (s .magnitude)) (booreAtkinsonSigmaBy s)
 
 -- "at most 100 units of 10^-9 apart for Idriss" (demand 3)
 abbrev pub idrissWidth : ℕ
@@ -38,14 +61,25 @@ idrissWidth = 100
 abbrev pub booreAtkinsonWidth : ℕ
 booreAtkinsonWidth = 2_000
 
+-- "twice the tabled widths for the median" between rows (W-201)
+abbrev pub widthAt : Limits → ℕ → ℕ → ℕ
+widthAt m T tabled = cond (isTabled m T) tabled (2 * tabled)
+
 -- how far the ends of the median may be apart
 unfoldable pub medianWidth : Scenario → ℕ
-medianWidth s = byModel s idrissWidth booreAtkinsonWidth
+medianWidth s =
+    byModel s (widthAt idriss (s .period) idrissWidth) (widthAt booreAtkinson (s .period) booreAtkinsonWidth)
 
 -- "at most 10 units apart" (demand 3)
 abbrev pub idrissSigmaWidth : ℕ
 idrissSigmaWidth = 10
 
--- and those of sigma; of Boore-Atkinson's "Its two ends are equal" ('Boore-Atkinson on rock')
+-- "and 20 units for sigma" between rows (W-201)
+abbrev pub sigmaBetweenWidth : ℕ
+sigmaBetweenWidth = 20
+
+-- and those of sigma; by a row of Boore-Atkinson "Its two ends are equal" ('Boore-Atkinson on rock')
 unfoldable pub sigmaWidth : Scenario → ℕ
-sigmaWidth s = byModel s idrissSigmaWidth 0
+sigmaWidth s =
+    byModel s (cond (isTabled idriss (s .period)) idrissSigmaWidth sigmaBetweenWidth)
+    (cond (isTabled booreAtkinson (s .period)) 0 sigmaBetweenWidth)

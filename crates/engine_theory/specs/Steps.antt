@@ -2,10 +2,12 @@
 use mathlib.Core.Path.{_≡_}
 use Prim.Native.Nat.{ℕ}
 use Rattle.scenario_theory.specs.declared.Scenario.{Scenario}
-use Rattle.scenario_theory.specs.Refusal.{refusalOf}
+use Rattle.scenario_theory.specs.declared.Place.{Place}
+use Rattle.scenario_theory.specs.Refusal.{Limits, refusalOf}
+use Rattle.scenario_theory.specs.Rows.{placeBy}
 
--- s is accepted by the model of this number, and k is the row of its period, as rowFor has it
-pub record TakenBy (number : ℕ) (rowFor : ℕ → ℕ) (s : Scenario) (k : ℕ) : Type 0 where
+-- s is accepted by the model of this number, which has these limits and rows, and p is the place of its period
+pub record TakenBy (number : ℕ) (m : Limits) (row : ℕ → ℕ) (s : Scenario) (p : Place) : Type 0 where
   pub model : s .model ≡ number
   pub accepted : refusalOf s ≡ 0
-  pub row : k ≡ rowFor (s .period)
+  pub place : p ≡ placeBy m row (s .period)

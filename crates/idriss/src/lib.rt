@@ -1,21 +1,25 @@
 // The median and sigma of Idriss 2014, each by two ends that enclose the exact value, in units of 10^-9.
 ghost use mathlib.Core.Path.{_≡_};
-ghost use Prim.Native.Nat.{_≤_, _<_};
+ghost use Prim.Native.Nat.{_+_, _≤_, _<_};
 ghost use Rattle.interval_theory.specs.Bound.{Sized};
 ghost use Rattle.logarithm_theory.specs.Promise.{lnWidth};
 ghost use Rattle.logarithm_theory.specs.Bound.{lnMost};
+ghost use Rattle.interpolation_theory.specs.Steps.{StepAt};
+ghost use Rattle.scenario_theory.specs.Refusal.{idriss};
 ghost use Rattle.scenario_theory.specs.Rows.{idrissRow, rowCount};
 ghost use Rattle.idriss_theory.specs.Tables.{takesTable3};
 ghost use Rattle.idriss_theory.specs.Rows.{rowAt, RowLimits};
 ghost use Rattle.idriss_theory.specs.Median.{F};
 ghost use Rattle.idriss_theory.specs.Sigma.{clamp};
-ghost use Rattle.idriss_theory.specs.Promise.{MedianDomain, MedianEnds, SigmaDomain, SigmaEnds};
+ghost use Rattle.idriss_theory.specs.Promise.{MedianDomain, MedianEnds, MedianBetweenEnds, SigmaDomain};
+ghost use Rattle.idriss_theory.specs.Promise.{SigmaEnds};
 ghost use Rattle.idriss_theory.specs.Evaluation.{AlphaDomain, alphaSum, gainsOf, lossesOf, distanceLnOf, vs30LnOf};
-ghost use Rattle.idriss_theory.specs.Evaluation.{distanceTermOf, siteTermOf, medianPairBy, medianOf, clampedRow};
-ghost use Rattle.idriss_theory.specs.Evaluation.{listedTermOf, sigmaOf};
-ghost use Rattle.idriss_theory.specs.Sizes.{alphaMost, exactMost, distanceTermMost, siteTermMost, periodTermMost};
+ghost use Rattle.idriss_theory.specs.Evaluation.{distanceTermOf, siteTermOf, medianPairBy, medianOf, medianBetweenOf};
+ghost use Rattle.idriss_theory.specs.Evaluation.{clampedPeriod, periodLnOf, sigmaOf};
+ghost use Rattle.idriss_theory.specs.Sizes.{alphaMost, exactMost, distanceTermMost, siteTermMost};
 use idriss_tables as table;
 use idriss_theory::Row;
+use interpolation_theory::Step;
 use interval_theory::Ends;
 use interval_theory::SignedEnds;
 use interval_theory::SignedPair;
@@ -144,6 +148,34 @@ pub fn median(
     interval::ends(median_by_row(table_3, k, magnitude as u64, d, ln_r, ln_v, mechanism))
 }
 
+// The median between row k of that table and the next, by the step from one to the other.
+pub fn median_between(
+    table_3: bool,
+    k: usize,
+    magnitude: u16,
+    rupture_distance: u16,
+    vs30: u16,
+    mechanism: u8,
+    s: Step,
+) -> SignedEnds
+    requires { ⌜ MedianDomain (k + 1) magnitude «rupture_distance» vs30 × StepAt (idriss .periods) k s ⌝ }
+    ensures { λ r. ⌜ r ≡ medianBetweenOf (rowAt «table_3» k) (rowAt «table_3» (k + 1)) s magnitude «rupture_distance»
+        vs30 mechanism ⌝ }
+    ensures { λ r. ⌜ MedianBetweenEnds (rowAt «table_3» k) (rowAt «table_3» (k + 1)) s magnitude «rupture_distance»
+        vs30 mechanism r ⌝ }
+{
+    let m = magnitude as u64;
+    let d = rupture_distance as u64;
+    let ln_r = distance_ln(d);
+    let ln_v = vs30_ln(vs30 as u64);
+    interpolation::interpolated(
+        median_by_row(table_3, k, m, d, ln_r, ln_v, mechanism),
+        median_by_row(table_3, k + 1, m, d, ln_r, ln_v, mechanism),
+        s.part,
+        s.whole,
+    )
+}
+
 // x held to the range from low to high.
 fn clamp(low: u16, high: u16, x: u16) -> u16
     requires { ⌜ low ≤ high ⌝ }
@@ -158,26 +190,50 @@ fn clamp(low: u16, high: u16, x: u16) -> u16
     x
 }
 
-// The absolute value of 0.035 ln T, T clamped, by the row of the period.
-fn period_term(k: usize) -> Ends
-    requires { ⌜ k < rowCount ⌝ }
-    ensures { λ e. ⌜ (e ≡ listedTermOf (clampedRow k)) × Sized e 2 periodTermMost ⌝ }
+// The absolute value of ln T, T clamped, of a period that has row k: it stands in the list.
+fn listed_ln(k: usize, period: u16) -> Ends
+    requires { ⌜ SigmaDomain period × (k ≡ idrissRow period) ⌝ }
+    ensures { λ l. ⌜ l ≡ periodLnOf (clampedPeriod period) ⌝ }
 {
-    let row = clamp(4, 17, k as u16) as usize;
-    interval::multiple(700_000, table::period_logarithm(row))
+    table::period_logarithm(clamp(4, 17, k as u16) as usize)
 }
 
-// 1.18 + 0.035 ln T − 0.06 M, T the period, which has row k.
-pub fn sigma(k: usize, period: u16, magnitude: u16) -> SignedEnds
-    requires { ⌜ SigmaDomain period × (k ≡ idrissRow period) ⌝ }
+// The same of any period, by the engine's own logarithm.
+fn period_ln(period: u16) -> Ends
+    ensures { λ l. ⌜ l ≡ periodLnOf (clampedPeriod period) ⌝ }
+{
+    let t = clamp(50, 3_000, period) as u64;
+    logarithm::ln(interval::max(t, 1_000), interval::min(t, 1_000))
+}
+
+// 1.18 + 0.035 ln T − 0.06 M, by the absolute value of ln T, T clamped.
+fn sigma_by(l: Ends, period: u16, magnitude: u16) -> SignedEnds
+    requires { ⌜ l ≡ periodLnOf (clampedPeriod period) ⌝ }
     ensures { λ r. ⌜ r ≡ sigmaOf period magnitude ⌝ }
     ensures { λ r. ⌜ SigmaEnds period magnitude r ⌝ }
 {
     let m = 600_000 * clamp(500, 750, magnitude) as u64;
     let t = clamp(50, 3_000, period);
-    let term = period_term(k);
+    let term = interval::multiple(700_000, l);
     if t < 1_000 {
         return interval::between(1_180_000_000, m + term.high, 1_180_000_000, m + term.low);
     }
     interval::between(1_180_000_000 + term.low, m, 1_180_000_000 + term.high, m)
+}
+
+// Sigma at a period T that has row k.
+pub fn sigma(k: usize, period: u16, magnitude: u16) -> SignedEnds
+    requires { ⌜ SigmaDomain period × (k ≡ idrissRow period) ⌝ }
+    ensures { λ r. ⌜ r ≡ sigmaOf period magnitude ⌝ }
+    ensures { λ r. ⌜ SigmaEnds period magnitude r ⌝ }
+{
+    sigma_by(listed_ln(k, period), period, magnitude)
+}
+
+// Sigma at any period T.
+pub fn sigma_between(period: u16, magnitude: u16) -> SignedEnds
+    ensures { λ r. ⌜ r ≡ sigmaOf period magnitude ⌝ }
+    ensures { λ r. ⌜ SigmaEnds period magnitude r ⌝ }
+{
+    sigma_by(period_ln(period), period, magnitude)
 }

@@ -5,3 +5,4 @@ pub mod Laws
 pub mod SigmaLaws
 pub mod Accepted
 pub mod Ranges
+pub mod Between

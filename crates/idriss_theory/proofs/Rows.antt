@@ -7,14 +7,15 @@ use Prim.Native.Nat.{ℕ, _+_, _*_, _<_}
 use borrow.Author.Needs.{needs}
 use lib.Dec.{eqb, eqb→eq}
 use Rattle.toolbox_theory.specs.Whole.{up, down}
-use Rattle.toolbox_theory.specs.Lists.{among, lookup}
+use Rattle.toolbox_theory.specs.Lists.{among}
 use Rattle.toolbox_theory.proofs.Tests.{by-test, AllLe, equal, row-within}
 use Rattle.toolbox_theory.proofs.ListLaws.{lookup-at, lookup-key}
 use Rattle.exact_theory.specs.Fraction.{_over_}
 use Rattle.scenario_theory.specs.Refusal.{idriss}
+use Rattle.scenario_theory.specs.Neighbours.{idrissPrinted}
 use Rattle.scenario_theory.specs.Rows.{idrissRow, rowCount}
 use Rattle.idriss_theory.specs.declared.Row as code
-use Rattle.idriss_theory.specs.Tables.{Row, table2, table3, noRow, takesTable3, rowPeriod, rowFor}
+use Rattle.idriss_theory.specs.Tables.{Row, table2, table3, noRow, rowIn}
 use Rattle.idriss_theory.specs.Rows.{rowAt, parts, TableLimits}
 
 -- the limits, each as two numbers in order
@@ -43,28 +44,28 @@ periods-printed : (isTable3 : Bool) → map (λ r. r .period) (cond isTable3 tab
 periods-printed true = refl
 periods-printed false = refl
 
-own-tabled : (period : ℕ) → among (idriss .periods) period ≡ true → rowPeriod period ≡ period
+own-tabled : (period : ℕ) → among (idriss .periods) period ≡ true → idrissPrinted period ≡ period
 own-tabled period e =
     by-test (eqb period 0) (λ t. t ≡ period) (λ z. absurd (false≢true (rw (eqb→eq period 0 z) at e))) (λ z. refl)
 
-pub row-printed : (magnitude period : ℕ) → among (idriss .periods) period ≡ true →
-    rowFor magnitude period .period ≡ period
-unfolding rowFor
-row-printed magnitude period e =
-    let b = takesTable3 magnitude in
-    rw (own-tabled period e)
-    (lookup-key (λ r. r .period) noRow (cond b table3 table2) period (rw (periods-printed b) e))
+module _ (isTable3 : Bool) (period : ℕ) where
+  pub row-printed : among (idriss .periods) period ≡ true → rowIn (cond isTable3 table3 table2) period .period ≡ period
+  unfolding rowIn
+  row-printed e =
+      rw (own-tabled period e)
+      (lookup-key (λ r. r .period) noRow (cond isTable3 table3 table2) period (rw (periods-printed isTable3) e))
+
+  -- and the one in the place that the code looks up
+  pub row-at : rowIn (cond isTable3 table3 table2) period ≡ rowAt isTable3 (idrissRow period)
+  unfolding rowIn rowAt idrissRow
+  row-at =
+      rw (
+        lookup-at (λ r. r .period) noRow (cond isTable3 table3 table2) (idrissPrinted period),
+        periods-printed isTable3,
+      ) refl
 
 -- "Period 0 uses the row 0.01"
-pub peak-printed : (magnitude : ℕ) → rowFor magnitude 0 .period ≡ 10
-unfolding rowFor
-peak-printed magnitude =
-    by-test (takesTable3 magnitude) (λ l. lookup (λ r. r .period) noRow l 10 .period ≡ 10) (λ _. refl) (λ _. refl)
-
--- ---- and the one in the place that the code looks up
-
-pub row-at : (magnitude period : ℕ) → rowFor magnitude period ≡ rowAt (takesTable3 magnitude) (idrissRow period)
-unfolding rowFor rowAt idrissRow
-row-at magnitude period =
-    let b = takesTable3 magnitude in
-    rw (lookup-at (λ r. r .period) noRow (cond b table3 table2) (rowPeriod period), periods-printed b) refl
+pub peak-printed : (isTable3 : Bool) → rowIn (cond isTable3 table3 table2) 0 .period ≡ 10
+unfolding rowIn
+peak-printed true = refl
+peak-printed false = refl

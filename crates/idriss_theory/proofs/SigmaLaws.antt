@@ -15,57 +15,69 @@ use Rattle.exact_theory.proofs.UnitLaws.{lies-difference}
 use Rattle.interval_theory.specs.declared.SignedPair.{SignedPair}
 use Rattle.interval_theory.specs.declared.SignedEnds.{SignedEnds}
 use Rattle.interval_theory.specs.Natural.{sumOf}
-use Rattle.interval_theory.specs.Bound.{SignedSized}
+use Rattle.interval_theory.specs.Bound.{size, Sized, SignedSized}
+use Rattle.interval_theory.proofs.Bounded.{given, multiple, at-most}
 use Rattle.interval_theory.proofs.SignedBounds.{signed-wider, pair-of, ends-narrow, ends-small}
 use Rattle.interval_theory.proofs.NaturalValues.{Held, HeldBelow, multiple-held, multiple-below}
 use Rattle.interval_theory.proofs.SignedValues.{LiesIn}
 use Rattle.interval_theory.proofs.NaturalBounds.{fitting, exactly-within, sum-within}
+use Rattle.logarithm_theory.specs.Promise.{LnDomain, lnWidth}
+use Rattle.logarithm_theory.specs.Bound.{lnMost}
+use Rattle.logarithm_theory.proofs.Bounds.{ln-sized}
 use Rattle.logarithm_theory.proofs.Enclosure.{Known, AtPoints, encloses, PairAtPoints, at-ends}
-use Rattle.scenario_theory.specs.Rows.{idrissRow}
-use Rattle.idriss_theory.specs.Tables.{rowPeriod}
+use Rattle.scenario_theory.specs.Neighbours.{idrissPrinted}
 use Rattle.idriss_theory.specs.Sigma.{clamp, sigma}
-use Rattle.idriss_theory.specs.Promise.{SigmaDomain, sigmaWidth, SigmaEnds}
-use Rattle.idriss_theory.specs.Periods.{periodLogarithm}
-use Rattle.idriss_theory.specs.Evaluation.{listedTermOf, periodTermOf, sigmaPairOf, sigmaOf, clampedMagnitude}
+use Rattle.idriss_theory.specs.Promise.{sigmaWidth, SigmaEnds}
+use Rattle.idriss_theory.specs.Evaluation.{periodLnOf, periodTermOf, sigmaPairOf, sigmaOf, clampedMagnitude}
 use Rattle.idriss_theory.specs.Evaluation.{clampedPeriod, constantTerm, magnitudeTermOf}
-use Rattle.idriss_theory.proofs.Listed.{Listed, period-listed, term-sized, clamped-tabled}
+use Rattle.idriss_theory.specs.Sizes.{periodTermMost}
 
 -- period 0 is clamped like 0.01 s
-own-clamped : (most period : ℕ) → clamp 50 most (rowPeriod period) ≡ clamp 50 most period
+own-clamped : (most period : ℕ) → clamp 50 most (idrissPrinted period) ≡ clamp 50 most period
 own-clamped most period =
     by-test (eqb period 0) (λ t. clamp 50 most t ≡ clamp 50 most period) (λ e. rw (eqb→eq period 0 e) refl) (λ e. refl)
 
-module _ {t : ℕ} (l : Listed t) {σ : Points} (known : Known σ) where
-  -- the absolute value of ln T
-  ln-held : Held (σ .lnAt (max t 1_000) (min t 1_000)) (periodLogarithm t)
-  ln-held = rw (l .is) (lies-natural _ _ (known .ln-within (l .domain)))
-
-  -- 0.035 ln T: from 1 s on, and below
-  term-held : 1_000 ≤ t → Held (pos 35 over 1_000 *q σ .lnAt t 1_000) (periodTermOf t)
-  unfolding listedTermOf up down
-  term-held h =
-      let most : max t 1_000 ≡ t = omega arith in
-      let least : min t 1_000 ≡ 1_000 = omega arith in
-      multiple-held 35 1_000 700_000 (omega arith) (rw (most, least) at ln-held)
-      (over-Is (pos 35) 1_000 (omega arith))
-
-  term-below : t < 1_000 → HeldBelow (pos 35 over 1_000 *q σ .lnAt t 1_000) (periodTermOf t)
-  unfolding listedTermOf up down
-  term-below h =
-      let most : max t 1_000 ≡ 1_000 = omega arith in
-      let least : min t 1_000 ≡ t = omega arith in
-      multiple-below 35 1_000 700_000 (omega arith)
-      (rw (known .ln-negated h) (lies-negated (rw (most, least) at ln-held))) (over-Is (pos 35) 1_000 (omega arith))
-
--- ---- sigma
-
-module _ (period magnitude : ℕ) (d : SigmaDomain period) where
+module _ (period : ℕ) where
   abbrev t : ℕ
   t = clampedPeriod period
 
-  listed : Listed t
-  listed = period-listed t (clamped-tabled period (d .tabled))
+  domain : LnDomain (max t 1_000) (min t 1_000)
+  domain = omega arith
 
+  module _ {σ : Points} (known : Known σ) where
+    -- the absolute value of ln T
+    ln-held : Held (σ .lnAt (max t 1_000) (min t 1_000)) (periodLnOf t)
+    unfolding periodLnOf
+    ln-held = lies-natural _ _ (known .ln-within domain)
+
+    -- 0.035 ln T: from 1 s on, and below
+    term-held : 1_000 ≤ t → Held (pos 35 over 1_000 *q σ .lnAt t 1_000) (periodTermOf t)
+    unfolding periodTermOf up down
+    term-held h =
+        let most : max t 1_000 ≡ t = omega arith in
+        let least : min t 1_000 ≡ 1_000 = omega arith in
+        multiple-held 35 1_000 700_000 (omega arith) (rw (most, least) at ln-held)
+        (over-Is (pos 35) 1_000 (omega arith))
+
+    term-below : t < 1_000 → HeldBelow (pos 35 over 1_000 *q σ .lnAt t 1_000) (periodTermOf t)
+    unfolding periodTermOf up down
+    term-below h =
+        let most : max t 1_000 ≡ 1_000 = omega arith in
+        let least : min t 1_000 ≡ t = omega arith in
+        multiple-below 35 1_000 700_000 (omega arith)
+        (rw (known .ln-negated h) (lies-negated (rw (most, least) at ln-held))) (over-Is (pos 35) 1_000 (omega arith))
+
+  pub period-sized : Sized (periodLnOf t) lnWidth lnMost
+  unfolding periodLnOf
+  period-sized = ln-sized domain
+
+  pub term-sized : Sized (periodTermOf t) 2 periodTermMost
+  unfolding periodTermOf
+  term-sized = at-most (multiple 700_000 (omega arith) (given period-sized)) (size 2 periodTermMost) tt
+
+-- ---- sigma
+
+module _ (period magnitude : ℕ) where
   abbrev pair : SignedPair
   pair = sigmaPairOf period magnitude
 
@@ -82,10 +94,10 @@ module _ (period magnitude : ℕ) (d : SigmaDomain period) where
       record {
         sound = rw (own-clamped, period-ln) ((tt, (tt, (omega arith, omega arith))), tt);
         held = λ σ known. rw (own-clamped, period-ln)
-            (by-test (ltb t 1_000) (LiesIn _)
-            (λ e. lies-wider (lies-difference (lies-sum constant (term-below listed known (ltb→lt t 1_000 e))) rest)
+            (by-test (ltb (t period) 1_000) (LiesIn _)
+            (λ e. lies-wider (lies-difference (lies-sum constant (term-below period known (ltb→lt (t period) 1_000 e))) rest)
             _ _ _ _ (omega arith) (omega arith))
-            (λ e. lies-wider (lies-difference (lies-sum constant (term-held listed known (nltb→le t 1_000 e))) rest)
+            (λ e. lies-wider (lies-difference (lies-sum constant (term-held period known (nltb→le (t period) 1_000 e))) rest)
             _ _ _ _ (omega arith) (omega arith)));
       }
 
@@ -93,9 +105,9 @@ module _ (period magnitude : ℕ) (d : SigmaDomain period) where
   unfolding sigmaPairOf
   sigmaPairOf-sized =
       let m = exactly-within {n = magnitudeTermOf (clampedMagnitude magnitude)} 450_000_000 (omega arith) in
-      let term = term-sized (idrissRow t) (listed .row) in
+      let term = term-sized period in
       let constant = exactly-within {n = constantTerm} constantTerm (omega arith) in
-      by-test (ltb t 1_000) (λ p. SignedSized p sigmaWidth 3_000_000_000)
+      by-test (ltb (t period) 1_000) (λ p. SignedSized p sigmaWidth 3_000_000_000)
       (λ _. signed-wider (pair-of constant (sum-within m term)) (fitting tt))
       (λ _. signed-wider (pair-of (sum-within constant term) m) (fitting tt))
 
@@ -116,6 +128,6 @@ module _ (period magnitude : ℕ) (d : SigmaDomain period) where
   }
 
 -- every pair of which a contract says `r ≡ sigmaOf period magnitude` keeps the promise
-pub sigma-ends : {period magnitude : ℕ} {r : SignedEnds} → SigmaDomain period → r ≡ sigmaOf period magnitude →
+pub sigma-ends : {period magnitude : ℕ} {r : SignedEnds} → r ≡ sigmaOf period magnitude →
     (r ≡ sigmaOf period magnitude) × SigmaEnds period magnitude r
-sigma-ends d e = (e, rw e (sigmaOf-promise _ _ d))
+sigma-ends e = (e, rw e (sigmaOf-promise _ _))

@@ -1,7 +1,7 @@
 -- What median and sigma compute, in whole numbers of units of 10^-9. A change of the way of computing swaps these
 -- definitions behind their names; callers go by the laws of proofs/Laws and SigmaLaws, and never by this text.
 use mathlib.Core.Bool.{cond}
-use Prim.Native.Nat.{ℕ, _+_, _*_, _-_, _≤_, min}
+use Prim.Native.Nat.{ℕ, _+_, _*_, _-_, _≤_, min, max}
 use lib.Dec.{ltb}
 use Rattle.interval_theory.specs.declared.SignedEnds.{SignedEnds}
 use Rattle.interval_theory.specs.declared.Ends.{Ends}
@@ -9,12 +9,12 @@ use Rattle.interval_theory.specs.declared.SignedPair.{SignedPair}
 use Rattle.interval_theory.specs.Signed.{endsOf}
 use Rattle.interval_theory.specs.Natural.{exactly, multipleOf, sumOf}
 use Rattle.logarithm_theory.specs.Evaluation.{lnOf}
-use Rattle.scenario_theory.specs.Rows.{idrissRow}
+use Rattle.interpolation_theory.specs.declared.Step.{Step}
+use Rattle.interpolation_theory.specs.Evaluation.{interpolatedOf}
 use Rattle.idriss_theory.specs.declared.Row as code
 use Rattle.idriss_theory.specs.Tables.{Row}
 use Rattle.idriss_theory.specs.Median.{F}
 use Rattle.idriss_theory.specs.Sigma.{clamp}
-use Rattle.idriss_theory.specs.Periods.{listedAt}
 use Rattle.idriss_theory.specs.Rows.{parts}
 
 -- ---- the median
@@ -75,6 +75,11 @@ medianPairOf row m d v mechanism = medianPairBy row m d (distanceLnOf d) (vs30Ln
 unfoldable pub medianOf : Row → ℕ → ℕ → ℕ → ℕ → SignedEnds
 medianOf row m d v mechanism = endsOf (medianPairOf row m d v mechanism)
 
+-- between two rows, by the logarithms of a step from one to the other
+unfoldable pub medianBetweenOf : Row → Row → Step → ℕ → ℕ → ℕ → ℕ → SignedEnds
+medianBetweenOf r q s m d v mechanism =
+    interpolatedOf (medianPairOf r m d v mechanism) (medianPairOf q m d v mechanism) (s .part) (s .whole)
+
 -- ---- sigma
 
 -- M and T, clamped
@@ -88,12 +93,12 @@ clampedPeriod period = clamp 50 3_000 period
 abbrev pub clampedRow : ℕ → ℕ
 clampedRow k = clamp 4 17 k
 
--- 0.035 ln T of the period in row k, and of a tabled T
-unfoldable pub listedTermOf : ℕ → Ends
-listedTermOf k = multipleOf 700_000 (listedAt k)
+-- the absolute value of ln T, T in thousandths of a second, and 0.035 times that
+unfoldable pub periodLnOf : ℕ → Ends
+periodLnOf t = lnOf (max t 1_000) (min t 1_000)
 
-abbrev pub periodTermOf : ℕ → Ends
-periodTermOf t = listedTermOf (idrissRow t)
+unfoldable pub periodTermOf : ℕ → Ends
+periodTermOf t = multipleOf 700_000 (periodLnOf t)
 
 -- 1.18, and 0.06 M
 abbrev pub constantTerm : ℕ

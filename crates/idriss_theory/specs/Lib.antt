@@ -4,6 +4,6 @@ pub mod Sigma
 pub mod Periods
 pub mod Rows
 pub mod Evaluation
+pub mod Ranges
 pub mod Promise
 pub mod Sizes
-pub mod Ranges

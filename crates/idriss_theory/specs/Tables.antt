@@ -2,10 +2,11 @@
 use mathlib.Core.Bool.{Bool, cond}
 use mathlib.Core.List.{List, [], _∷_}
 use Prim.Native.Nat.{ℕ}
-use lib.Dec.{eqb, ltb}
+use lib.Dec.{ltb}
 use lib.IntN.{ℤ, pos, negℤ}
 use Rattle.toolbox_theory.specs.Lists.{lookup}
 use Rattle.exact_theory.specs.Fraction.{Fraction, _over_}
+use Rattle.scenario_theory.specs.Neighbours.{idrissPrinted}
 
 abbrev neg : ℕ → ℤ
 neg n = negℤ (pos n)
@@ -100,11 +101,14 @@ noRow = row 1 (pos 0) (pos 0) (pos 0) (pos 0) (pos 0) (pos 0) (pos 0) (pos 0)
 unfoldable pub takesTable3 : ℕ → Bool
 takesTable3 magnitude = ltb 675 magnitude
 
--- "Period 0 uses the row 0.01": the period of the row that a period uses
-abbrev pub rowPeriod : ℕ → ℕ
-rowPeriod period = cond (eqb period 0) 10 period
+-- the table of a magnitude
+abbrev pub tableFor : ℕ → List Row
+tableFor magnitude = cond (takesTable3 magnitude) table3 table2
+
+-- the row that a table prints with a period: "Period 0 uses the row 0.01"
+unfoldable pub rowIn : List Row → ℕ → Row
+rowIn table period = lookup (λ r. r .period) noRow table (idrissPrinted period)
 
 -- the row that the table of a magnitude prints with a period
-unfoldable pub rowFor : ℕ → ℕ → Row
-rowFor magnitude period =
-    lookup (λ r. r .period) noRow (cond (takesTable3 magnitude) table3 table2) (rowPeriod period)
+abbrev pub rowFor : ℕ → ℕ → Row
+rowFor magnitude period = rowIn (tableFor magnitude) period

@@ -8,7 +8,8 @@ use native.Mathlib.Omega.{arith}
 use lib.IntN.{ℤ, pos, negℤ, natAbs, _+ℤ_}
 use lib.Signed.{leZ, _≤ℤ_}
 use Rattle.toolbox_theory.proofs.Tests.{by-test}
-use Rattle.toolbox_theory.proofs.Whole.{narrower}
+use Rattle.toolbox_theory.specs.Whole.{up, down}
+use Rattle.toolbox_theory.proofs.Whole.{narrower, neg-is, sub-is, ≤ℤ-in}
 use Rattle.signed_theory.proofs.Laws.{difference-small}
 use Rattle.interval_theory.specs.declared.Ends.{Ends}
 use Rattle.interval_theory.specs.declared.SignedPair.{SignedPair}
@@ -16,7 +17,8 @@ use Rattle.interval_theory.specs.declared.SignedEnds.{SignedEnds}
 use Rattle.interval_theory.specs.Natural.{productOf, sumOf}
 use Rattle.interval_theory.specs.Signed.{Moderate, plusOf, minusOf, timesOf, SmallerThan, betweenOf, endsOf}
 use Rattle.interval_theory.specs.Signed.{greater, signedHullOf}
-use Rattle.interval_theory.specs.Bound.{Bound, Within, SignedWithin, sumBound, timesBound, Ranges, Near}
+use Rattle.interval_theory.specs.Bound.{Bound, Within, SignedWithin, sumBound, timesBound, Ranges, Reaches}
+use Rattle.interval_theory.specs.Bound.{Near}
 use Rattle.interval_theory.proofs.NaturalBounds.{Fits, product-within}
 
 -- −2^53 is 2^53 in absolute value, and not below: no such end is smaller than 2^53
@@ -63,17 +65,34 @@ ranges-near p q = omega arith
 
 -- ---- the ends
 
+module _ (a b c d : ℕ) where
+  pub between-narrow : (w : ℕ) → c + b ≤ a + d + w → betweenOf a b c d .high ≤ℤ (betweenOf a b c d .low +ℤ pos w)
+  unfolding betweenOf
+  between-narrow w h = narrower c d a b w h
+
+  pub between-small : (n : ℕ) → a < b + n → b < a + n → c < d + n → d < c + n → SmallerThan n (betweenOf a b c d)
+  unfolding betweenOf
+  between-small n p q r s = record { low = difference-small a b n p q; high = difference-small c d n r s }
+
+  pub between-reaches : (l m : ℕ) → b ≤ a + l → c ≤ d + m → Reaches l m (betweenOf a b c d)
+  unfolding betweenOf up down
+  between-reaches l m least most = record {
+    least = ≤ℤ-in (omega (arith, sub-is a b, neg-is (pos l)));
+    most = ≤ℤ-in (omega (arith, sub-is c d));
+  }
+
 pub ends-narrow : (a : SignedPair) {β : Bound} (w : ℕ) → SignedWithin a β → β .width ≤ w →
     endsOf a .high ≤ℤ (endsOf a .low +ℤ pos w)
-unfolding endsOf betweenOf
-ends-narrow a w s h = narrower (a .gain .high) (a .loss .low) (a .gain .low) (a .loss .high) w (omega arith)
+unfolding endsOf
+ends-narrow a w s h = between-narrow _ _ _ _ w (omega arith)
 
 pub ends-small : (a : SignedPair) {β : Bound} (n : ℕ) → SignedWithin a β → β .most < n → SmallerThan n (endsOf a)
-unfolding endsOf betweenOf
-ends-small a n s h = record {
-  low = difference-small (a .gain .low) (a .loss .high) n (omega arith) (omega arith);
-  high = difference-small (a .gain .high) (a .loss .low) n (omega arith) (omega arith);
-}
+unfolding endsOf
+ends-small a n s h = between-small _ _ _ _ n (omega arith) (omega arith) (omega arith) (omega arith)
+
+pub ends-reach : (a : SignedPair) {l m : ℕ} → Ranges l m a → Reaches l m (endsOf a)
+unfolding endsOf
+ends-reach a h = between-reaches _ _ _ _ _ _ (h .least) (h .most)
 
 -- ---- the hull of two pairs of ends
 

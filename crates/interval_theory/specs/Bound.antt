@@ -3,8 +3,11 @@
 use mathlib.Core.Bool.{Bool, _&&_}
 use Prim.Native.Nat.{ℕ, _+_, _*_, _-_, _/_, _≤_, min, max}
 use lib.Dec.{leb}
+use lib.IntN.{pos, negℤ}
+use lib.Signed.{_≤ℤ_}
 use Rattle.interval_theory.specs.declared.Ends.{Ends}
 use Rattle.interval_theory.specs.declared.SignedPair.{SignedPair}
+use Rattle.interval_theory.specs.declared.SignedEnds.{SignedEnds}
 use Rattle.interval_theory.specs.Natural.{unit, scale}
 
 pub record Bound : Type 0 where
@@ -101,6 +104,11 @@ timesBound α β =
 pub record Ranges (l m : ℕ) (a : SignedPair) : Type 0 where
   pub least : a .loss .high ≤ a .gain .low + l
   pub most : a .gain .high ≤ a .loss .low + m
+
+-- and those of e do
+pub record Reaches (l m : ℕ) (e : SignedEnds) : Type 0 where
+  pub least : negℤ (pos l) ≤ℤ e .low
+  pub most : e .high ≤ℤ pos m
 
 -- no end of a and no end of b are more than d apart
 pub record Near (d : ℕ) (a b : SignedPair) : Type 0 where

@@ -6,15 +6,15 @@ ghost use lib.ListN.{length, take, drop};
 ghost use denote.Ref.{ptr};
 ghost use Rattle.record_theory.specs.Layout.{Bytes, layout, numberOf, absentWritten};
 ghost use Rattle.record_theory.specs.Outcome.{scenarioIn, readOf, restAt, restOf, ReadPromise};
-ghost use Rattle.record_theory.specs.Steps.{Complete, frontRefusal, fieldCheck, rowReadingOf, rowless};
+ghost use Rattle.record_theory.specs.Steps.{Complete, frontRefusal, fieldCheck, placedReadingOf, placeless};
 use record_map::ABSENT_MECHANISM;
 use record_map::ABSENT_PERIOD;
 use record_map::ABSENT_VELOCITY;
 use record_map::map_refusal;
 use record_map::more_if;
 use record_map::record_length;
+pub use record_theory::PlacedReading;
 pub use record_theory::Reading;
-pub use record_theory::RowReading;
 use scenario_theory::Check;
 use scenario_theory::Scenario;
 
@@ -125,7 +125,7 @@ fn front_refusal(s: &[u8]) -> u8
     0
 }
 
-// The checks of the fields, with the row of the period.
+// The checks of the fields, with the place of the period.
 fn field_check(m: u8, x: Scenario) -> Check
     ensures { λ r. ⌜ r ≡ fieldCheck m x ⌝ }
 {
@@ -135,22 +135,22 @@ fn field_check(m: u8, x: Scenario) -> Check
     scenario::check(x)
 }
 
-// Reads the record at the front of s, with the row of the period, so that nobody has to look it up again.
-pub fn read_with_row(s: &[u8]) -> RowReading
-    ensures { λ r. ⌜ r ≡ rowReadingOf (now (s .entry)) ⌝ }
-    ensures { λ r. ⌜ ReadPromise (now (s .entry)) (rowless r) ⌝ }
+// Reads the record at the front of s, with the place of the period, so that nobody has to look it up again.
+pub fn read_with_place(s: &[u8]) -> PlacedReading
+    ensures { λ r. ⌜ r ≡ placedReadingOf (now (s .entry)) ⌝ }
+    ensures { λ r. ⌜ ReadPromise (now (s .entry)) (placeless r) ⌝ }
     ensures { λ _. ⌜ Bytes (now (s .entry)) ⌝ }
 {
     let front = front_refusal(s);
     if front != 0 {
-        return RowReading::Refused(front);
+        return PlacedReading::Refused(front);
     }
     let m = s[0];
     let x = fields(s);
     let c = field_check(m, x);
     match c {
-        Check::Accepted(row) => RowReading::Read(x, record_length(m), row),
-        Check::Refused(k) => RowReading::Refused(k),
+        Check::Accepted(place) => PlacedReading::Read(x, record_length(m), place),
+        Check::Refused(k) => PlacedReading::Refused(k),
     }
 }
 
@@ -160,9 +160,9 @@ pub fn read(s: &[u8]) -> Reading
     ensures { λ r. ⌜ ReadPromise (now (s .entry)) r ⌝ }
     ensures { λ _. ⌜ Bytes (now (s .entry)) ⌝ }
 {
-    match read_with_row(s) {
-        RowReading::Read(x, n, _) => Reading::Read(x, n),
-        RowReading::Refused(k) => Reading::Refused(k),
+    match read_with_place(s) {
+        PlacedReading::Read(x, n, _) => Reading::Read(x, n),
+        PlacedReading::Refused(k) => Reading::Refused(k),
     }
 }
 

@@ -12,16 +12,17 @@ use Rattle.scenario_theory.specs.declared.Check.{Check}
 use Rattle.scenario_theory.specs.declared.Check.the-variants as C
 use Rattle.scenario_theory.specs.Checks.{_when_, _otherwise_}
 use Rattle.scenario_theory.specs.Refusal.{refusalOf}
-use Rattle.scenario_theory.specs.Rows.{rowOf, Looked, checkOf}
+use Rattle.scenario_theory.specs.Rows.{placeOf, Looked, checkOf}
 use Rattle.scenario_theory.proofs.CheckLaws.{is-first, first-of-three, none-of, not-when}
 use Rattle.scenario_theory.proofs.CheckLaws.{is-refused, by-number, of-unless}
-use Rattle.record_theory.specs.declared.RowReading.{RowReading}
-use Rattle.record_theory.specs.declared.RowReading.the-variants as T
+use Rattle.scenario_theory.specs.declared.Place.{Place}
+use Rattle.record_theory.specs.declared.PlacedReading.{PlacedReading}
+use Rattle.record_theory.specs.declared.PlacedReading.the-variants as T
 use Rattle.record_theory.specs.declared.Reading.the-variants.{Read, Refused}
 use Rattle.record_theory.specs.Layout.{layout, absentWritten}
 use Rattle.record_theory.specs.Outcome.{mapIn, scenarioIn, lengthBy, mapRefusal, readRefusal, readOf, restAt}
 use Rattle.record_theory.specs.Outcome.{restOf, readingNumber, readingValues, ReadPromise}
-use Rattle.record_theory.specs.Steps.{frontRefusal, fieldRefusal, fieldCheck, rowReadingOf, rowless, Complete}
+use Rattle.record_theory.specs.Steps.{frontRefusal, fieldRefusal, fieldCheck, placedReadingOf, placeless, Complete}
 
 -- ---- the checks in two parts, as the program makes them
 
@@ -59,43 +60,43 @@ module _ (m : ℕ) (x : Scenario) where
   unfolding fieldCheck fieldRefusal checkOf
   not-written-out e h = rw e h
 
--- ---- the answers of reading with the row
+-- ---- the answers of reading with the place
 
 module _ (s : List ℕ) where
-  refused : (k : ℕ) → k ≡ readRefusal s → (k ≡ 0 → ⊥) → T.Refused k ≡ rowReadingOf s
-  unfolding rowReadingOf
+  refused : (k : ℕ) → k ≡ readRefusal s → (k ≡ 0 → ⊥) → T.Refused k ≡ placedReadingOf s
+  unfolding placedReadingOf
   refused k e h = rw (← e) (is-refused k _ (T.Refused k) h)
 
-  pub refused-front : (k : ℕ) → k ≡ frontRefusal s → (k ≡ 0 → ⊥) → T.Refused k ≡ rowReadingOf s
+  pub refused-front : (k : ℕ) → k ≡ frontRefusal s → (k ≡ 0 → ⊥) → T.Refused k ≡ placedReadingOf s
   refused-front k e h = refused k (e ∙ (is-first (frontRefusal s) _ (λ z. h (e ∙ z)) ∙ in-two s)) h
 
   module _ (front : frontRefusal s ≡ 0) where
     numbers : fieldRefusal (mapIn s) (scenarioIn s) ≡ readRefusal s
     numbers = rw front at (in-two s)
 
-    pub refused-fields : {k : ℕ} → fieldCheck (mapIn s) (scenarioIn s) ≡ C.Refused k → T.Refused k ≡ rowReadingOf s
+    pub refused-fields : {k : ℕ} → fieldCheck (mapIn s) (scenarioIn s) ≡ C.Refused k → T.Refused k ≡ placedReadingOf s
     unfolding fieldCheck
     refused-fields {k} e =
-        by-number (λ r. r ≡ C.Refused k → T.Refused k ≡ rowReadingOf s) (fieldRefusal (mapIn s) (scenarioIn s))
+        by-number (λ r. r ≡ C.Refused k → T.Refused k ≡ placedReadingOf s) (fieldRefusal (mapIn s) (scenarioIn s))
         (λ p q. let z : _≡_ {A = ℕ} 0 1 = cc in absurd (omega arith))
         (λ p q. let same : k ≡ fieldRefusal (mapIn s) (scenarioIn s) = cc in
         refused k (same ∙ numbers) (λ z. p (sym same ∙ z))) e
 
-    pub is-read : {row : ℕ} → fieldCheck (mapIn s) (scenarioIn s) ≡ C.Accepted row →
-        T.Read (scenarioIn s) (lengthBy (mapIn s)) row ≡ rowReadingOf s
-    unfolding fieldCheck rowReadingOf
-    is-read {row} e =
-        by-number (λ r. r ≡ C.Accepted row → T.Read (scenarioIn s) (lengthBy (mapIn s)) row ≡ rowReadingOf s)
+    pub is-read : {place : Place} → fieldCheck (mapIn s) (scenarioIn s) ≡ C.Accepted place →
+        T.Read (scenarioIn s) (lengthBy (mapIn s)) place ≡ placedReadingOf s
+    unfolding fieldCheck placedReadingOf
+    is-read {place} e =
+        by-number (λ r. r ≡ C.Accepted place → T.Read (scenarioIn s) (lengthBy (mapIn s)) place ≡ placedReadingOf s)
         (fieldRefusal (mapIn s) (scenarioIn s))
-        (λ p q. let same : row ≡ rowOf (scenarioIn s .model) (scenarioIn s .period) = cc in
+        (λ p q. let same : place ≡ placeOf (scenarioIn s .model) (scenarioIn s .period) = cc in
         rw (sym numbers ∙ p, same) refl)
         (λ p q. let z : _≡_ {A = ℕ} 0 1 = cc in absurd (omega arith)) e
 
-  -- ---- the contract of reading: the row left out
+  -- ---- the contract of reading: the place left out
 
-  forgotten : rowless (rowReadingOf s) ≡ readOf s
-  unfolding rowReadingOf readOf
-  forgotten = of-unless rowless (readRefusal s) _ _
+  forgotten : placeless (placedReadingOf s) ≡ readOf s
+  unfolding placedReadingOf readOf
+  forgotten = of-unless placeless (readRefusal s) _ _
 
   read-promise : ReadPromise s (readOf s)
   unfolding readOf
@@ -104,8 +105,8 @@ module _ (s : List ℕ) where
     values = of-unless readingValues (readRefusal s) _ _;
   }
 
-  pub read-of : {t : RowReading} → rowReadingOf s ≡ t → (rowless t ≡ readOf s) × ReadPromise s (rowless t)
-  read-of e = let f = ap rowless (sym e) ∙ forgotten in (f, rw f read-promise)
+  pub read-of : {t : PlacedReading} → placedReadingOf s ≡ t → (placeless t ≡ readOf s) × ReadPromise s (placeless t)
+  read-of e = let f = ap placeless (sym e) ∙ forgotten in (f, rw f read-promise)
 
 -- ---- what an answer says
 
@@ -153,19 +154,19 @@ not-read s k e =
       rest = sym (is-refused (readRefusal s) _ _ p);
     }) e
 
--- ---- what reading with the row says
+-- ---- what reading with the place says
 
-pub record RowRead (s : List ℕ) (x : Scenario) (n row : ℕ) : Type 0 where
+pub record PlacedRead (s : List ℕ) (x : Scenario) (n : ℕ) (place : Place) : Type 0 where
   pub read : readOf s ≡ Read x n
-  pub looked : Looked x row
+  pub looked : Looked x place
 
-pub row-read : (s : List ℕ) {x : Scenario} {n row : ℕ} → rowReadingOf s ≡ T.Read x n row → RowRead s x n row
-unfolding rowReadingOf
-row-read s {x} {n} {row} e =
+pub placed-read : (s : List ℕ) {x : Scenario} {n : ℕ} {place : Place} → placedReadingOf s ≡ T.Read x n place → PlacedRead s x n place
+unfolding placedReadingOf
+placed-read s {x} {n} {place} e =
     let read = sym (read-of s e .0) in
     let r = read-as s x n read in
     let accepted = rw (r .scenario) at (r .passes .taken) in
-    let looked = by-number (λ r. r ≡ T.Read x n row → Looked x row) (readRefusal s)
-    (λ p q. record { accepted = accepted; row = cc })
+    let looked = by-number (λ r. r ≡ T.Read x n place → Looked x place) (readRefusal s)
+    (λ p q. record { accepted = accepted; place = cc })
     (λ p q. let z : _≡_ {A = ℕ} 0 1 = cc in absurd (omega arith)) e in
     record { read = read; looked = looked }

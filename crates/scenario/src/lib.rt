@@ -2,14 +2,21 @@
 ghost use mathlib.Core.Path.{_≡_};
 ghost use mathlib.Core.Bool.{not};
 ghost use mathlib.Core.List.{[], _∷_};
+ghost use Prim.Native.Nat.{_<_};
+ghost use lib.ListN.{getD};
 ghost use Rattle.toolbox_theory.specs.Lists.{among};
 ghost use Rattle.scenario_theory.specs.Checks.{_to_, beyond, _when_, _otherwise_};
 ghost use Rattle.scenario_theory.specs.Refusal.{idriss, booreAtkinson, refusalOf};
-ghost use Rattle.scenario_theory.specs.Rows.{idrissRow, booreAtkinsonRow, checkAt, checkBy, checkOf};
+ghost use Rattle.scenario_theory.specs.Rows.{rowCount, idrissRow, booreAtkinsonRow, rowList, periodsAt, InTable};
+ghost use Rattle.scenario_theory.specs.Rows.{checkBy, checkOf};
+ghost use Rattle.scenario_theory.specs.Neighbours.{rowPeriodsOf};
+use scenario_rows::boore_atkinson_period;
 use scenario_rows::boore_atkinson_place;
+use scenario_rows::idriss_period;
 use scenario_rows::idriss_place;
 pub use scenario_theory::Check;
 use scenario_theory::Place;
+pub use scenario_theory::RowPeriods;
 pub use scenario_theory::Scenario;
 
 fn outside(low: u16, high: u16, x: u16) -> bool
@@ -44,17 +51,6 @@ fn first(two: bool, three: bool, four: bool, five: bool) -> u8
     0
 }
 
-// What the check of the period comes to, by its place, where those before it do not fail.
-fn last(place: Place) -> Check
-    ensures { λ r. ⌜ r ≡ checkAt 0 place ⌝ }
-{
-    match place {
-        Place::Row(row) => Check::Accepted(row),
-        Place::Between(_) => Check::Refused(6),
-        Place::Outside => Check::Refused(6),
-    }
-}
-
 fn idriss_check(s: Scenario) -> Check
     ensures { λ r. ⌜ r ≡ checkBy idriss idrissRow s ⌝ }
 {
@@ -67,7 +63,7 @@ fn idriss_check(s: Scenario) -> Check
     if k != 0 {
         return Check::Refused(k);
     }
-    last(idriss_place(s.period))
+    idriss_place(s.period)
 }
 
 fn boore_atkinson_check(s: Scenario) -> Check
@@ -82,10 +78,10 @@ fn boore_atkinson_check(s: Scenario) -> Check
     if k != 0 {
         return Check::Refused(k);
     }
-    last(boore_atkinson_place(s.period))
+    boore_atkinson_place(s.period)
 }
 
-// The checks 1 to 6 of s: the row of its period, or the number of the first that it fails.
+// The checks 1 to 6 of s: the place of its period, or the number of the first that it fails.
 pub fn check(s: Scenario) -> Check
     ensures { λ r. ⌜ r ≡ checkOf s ⌝ }
 {
@@ -106,4 +102,48 @@ pub fn refusal(s: Scenario) -> u8
         Check::Accepted(_) => 0,
         Check::Refused(k) => k,
     }
+}
+
+// The period of row k in the tables of Idriss for model 1, of Boore-Atkinson for any other.
+fn period_of_row(model: u8, k: usize) -> u16
+    requires { ⌜ k < rowCount ⌝ }
+    ensures { λ r. ⌜ r ≡ getD (rowList model) k 0 ⌝ }
+{
+    if model == 1 {
+        return idriss_period(k);
+    }
+    boore_atkinson_period(k)
+}
+
+// The periods of the rows of a place in those tables.
+fn periods_at(model: u8, place: Check) -> RowPeriods
+    requires { ⌜ InTable place ⌝ }
+    ensures { λ r. ⌜ r ≡ periodsAt (rowList model) place ⌝ }
+{
+    match place {
+        Check::Accepted(p) => match p {
+            Place::Row(k) => {
+                let t = period_of_row(model, k);
+                RowPeriods::Rows(t, t)
+            }
+            Place::Between(k) => {
+                RowPeriods::Rows(period_of_row(model, k), period_of_row(model, k + 1))
+            }
+        },
+        Check::Refused(k) => RowPeriods::Refused(k),
+    }
+}
+
+// The periods of the two rows that an answer at a period rests on: equal where the period has a row of its own, else
+// its neighbours in the tables of the model.
+pub fn row_periods(model: u8, period: u16) -> RowPeriods
+    ensures { λ r. ⌜ r ≡ rowPeriodsOf model period ⌝ }
+{
+    if model == 1 {
+        return periods_at(1, idriss_place(period));
+    }
+    if model == 2 {
+        return periods_at(2, boore_atkinson_place(period));
+    }
+    RowPeriods::Refused(1)
 }

@@ -1,12 +1,16 @@
 // Where a period stands in the tables of each model.
 ghost use mathlib.Core.Path.{_≡_};
 ghost use mathlib.Core.Bool.{cond, _&&_};
-ghost use Prim.Native.Nat.{_+_, _-_, _≤_};
+ghost use mathlib.Core.List.{_∷_};
+ghost use Prim.Native.Nat.{_+_, _-_, _≤_, _<_};
 ghost use lib.Dec.{ltb};
+ghost use lib.ListN.{getD};
 ghost use Rattle.toolbox_theory.specs.Lists.{countBelow};
 ghost use Rattle.scenario_theory.specs.declared.Place.the-variants as P;
+ghost use Rattle.scenario_theory.specs.declared.Check.the-variants as C;
 ghost use Rattle.scenario_theory.specs.Refusal.{idriss, booreAtkinson};
-ghost use Rattle.scenario_theory.specs.Rows.{idrissPlace, booreAtkinsonPlace};
+ghost use Rattle.scenario_theory.specs.Rows.{rowCount, idrissPlace, booreAtkinsonPlace};
+use scenario_theory::Check;
 use scenario_theory::Place;
 
 // Idriss's tabled periods, in thousandths of a second; Boore-Atkinson has the same without 40.
@@ -57,18 +61,19 @@ fn count_below(period: u16) -> usize
     n
 }
 
-// The place of a period that has no row, after n of so many periods, the first of which has row `first`.
-fn after(n: usize, count: usize, first: usize) -> Place
+// The place of a period that has no row, after n of so many periods, the first of which has row `first`; none before
+// all of them or after.
+fn after(n: usize, count: usize, first: usize) -> Check
     requires { ⌜ (n ≤ 22) × (first ≤ 1) ⌝ }
-    ensures { λ r. ⌜ r ≡ cond (ltb 0 n && ltb n count) (P.Between (first + n - 1)) P.Outside ⌝ }
+    ensures { λ r. ⌜ r ≡ cond (ltb 0 n && ltb n count) (C.Accepted (P.Between (first + n - 1))) (C.Refused 6) ⌝ }
 {
     if n == 0 {
-        return Place::Outside;
+        return Check::Refused(6);
     }
     if n < count {
-        return Place::Between(first + n - 1);
+        return Check::Accepted(Place::Between(first + n - 1));
     }
-    Place::Outside
+    Check::Refused(6)
 }
 
 // How many of Boore-Atkinson's periods are below a period.
@@ -82,65 +87,88 @@ fn count_below_without_40(period: u16) -> usize
     n
 }
 
-// Where a period stands in Idriss's tables.
-pub fn idriss_place(period: u16) -> Place
+// Where a period stands in Idriss's tables, or that it is outside them.
+pub fn idriss_place(period: u16) -> Check
     ensures { λ r. ⌜ r ≡ idrissPlace period ⌝ }
 {
     match period {
-        0 => Place::Row(0),
-        10 => Place::Row(0),
-        20 => Place::Row(1),
-        30 => Place::Row(2),
-        40 => Place::Row(3),
-        50 => Place::Row(4),
-        75 => Place::Row(5),
-        100 => Place::Row(6),
-        150 => Place::Row(7),
-        200 => Place::Row(8),
-        250 => Place::Row(9),
-        300 => Place::Row(10),
-        400 => Place::Row(11),
-        500 => Place::Row(12),
-        750 => Place::Row(13),
-        1_000 => Place::Row(14),
-        1_500 => Place::Row(15),
-        2_000 => Place::Row(16),
-        3_000 => Place::Row(17),
-        4_000 => Place::Row(18),
-        5_000 => Place::Row(19),
-        7_500 => Place::Row(20),
-        10_000 => Place::Row(21),
+        0 => Check::Accepted(Place::Row(0)),
+        10 => Check::Accepted(Place::Row(0)),
+        20 => Check::Accepted(Place::Row(1)),
+        30 => Check::Accepted(Place::Row(2)),
+        40 => Check::Accepted(Place::Row(3)),
+        50 => Check::Accepted(Place::Row(4)),
+        75 => Check::Accepted(Place::Row(5)),
+        100 => Check::Accepted(Place::Row(6)),
+        150 => Check::Accepted(Place::Row(7)),
+        200 => Check::Accepted(Place::Row(8)),
+        250 => Check::Accepted(Place::Row(9)),
+        300 => Check::Accepted(Place::Row(10)),
+        400 => Check::Accepted(Place::Row(11)),
+        500 => Check::Accepted(Place::Row(12)),
+        750 => Check::Accepted(Place::Row(13)),
+        1_000 => Check::Accepted(Place::Row(14)),
+        1_500 => Check::Accepted(Place::Row(15)),
+        2_000 => Check::Accepted(Place::Row(16)),
+        3_000 => Check::Accepted(Place::Row(17)),
+        4_000 => Check::Accepted(Place::Row(18)),
+        5_000 => Check::Accepted(Place::Row(19)),
+        7_500 => Check::Accepted(Place::Row(20)),
+        10_000 => Check::Accepted(Place::Row(21)),
         _ => after(count_below(period), 22, 0),
     }
 }
 
-// Where a period stands in Boore-Atkinson's tables.
-pub fn boore_atkinson_place(period: u16) -> Place
+// Where a period stands in Boore-Atkinson's tables, or that it is outside them.
+pub fn boore_atkinson_place(period: u16) -> Check
     ensures { λ r. ⌜ r ≡ booreAtkinsonPlace period ⌝ }
 {
     match period {
-        0 => Place::Row(0),
-        10 => Place::Row(1),
-        20 => Place::Row(2),
-        30 => Place::Row(3),
-        50 => Place::Row(4),
-        75 => Place::Row(5),
-        100 => Place::Row(6),
-        150 => Place::Row(7),
-        200 => Place::Row(8),
-        250 => Place::Row(9),
-        300 => Place::Row(10),
-        400 => Place::Row(11),
-        500 => Place::Row(12),
-        750 => Place::Row(13),
-        1_000 => Place::Row(14),
-        1_500 => Place::Row(15),
-        2_000 => Place::Row(16),
-        3_000 => Place::Row(17),
-        4_000 => Place::Row(18),
-        5_000 => Place::Row(19),
-        7_500 => Place::Row(20),
-        10_000 => Place::Row(21),
+        0 => Check::Accepted(Place::Row(0)),
+        10 => Check::Accepted(Place::Row(1)),
+        20 => Check::Accepted(Place::Row(2)),
+        30 => Check::Accepted(Place::Row(3)),
+        50 => Check::Accepted(Place::Row(4)),
+        75 => Check::Accepted(Place::Row(5)),
+        100 => Check::Accepted(Place::Row(6)),
+        150 => Check::Accepted(Place::Row(7)),
+        200 => Check::Accepted(Place::Row(8)),
+        250 => Check::Accepted(Place::Row(9)),
+        300 => Check::Accepted(Place::Row(10)),
+        400 => Check::Accepted(Place::Row(11)),
+        500 => Check::Accepted(Place::Row(12)),
+        750 => Check::Accepted(Place::Row(13)),
+        1_000 => Check::Accepted(Place::Row(14)),
+        1_500 => Check::Accepted(Place::Row(15)),
+        2_000 => Check::Accepted(Place::Row(16)),
+        3_000 => Check::Accepted(Place::Row(17)),
+        4_000 => Check::Accepted(Place::Row(18)),
+        5_000 => Check::Accepted(Place::Row(19)),
+        7_500 => Check::Accepted(Place::Row(20)),
+        10_000 => Check::Accepted(Place::Row(21)),
         _ => after(count_below_without_40(period), 21, 1),
     }
+}
+
+// The period of row k of Idriss's tables.
+pub fn idriss_period(k: usize) -> u16
+    requires { ⌜ k < rowCount ⌝ }
+    ensures { λ r. ⌜ r ≡ getD (idriss .periods) k 0 ⌝ }
+{
+    let t = periods();
+    t[k]
+}
+
+// The period of row k of Boore-Atkinson's tables, 0 for PGA.
+pub fn boore_atkinson_period(k: usize) -> u16
+    requires { ⌜ k < rowCount ⌝ }
+    ensures { λ r. ⌜ r ≡ getD (0 ∷ booreAtkinson .periods) k 0 ⌝ }
+{
+    if k == 0 {
+        return 0;
+    }
+    if k < 4 {
+        return idriss_period(k - 1);
+    }
+    idriss_period(k)
 }

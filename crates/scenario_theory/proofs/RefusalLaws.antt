@@ -1,19 +1,19 @@
 -- What a scenario that is not refused is like.
 use mathlib.Core.Path.{_≡_, refl}
-use mathlib.Core.Bool.{true≢false, Bool, true, false, not, _||_}
-use mathlib.Core.List.{_∷_}
+use mathlib.Core.Bool.{Bool, true, false, false≢true, not, _&&_}
 use mathlib.Core.Logic.{_⊎_, inl, inr, ⊎-elim}
-use Prim.Native.Nat.{ℕ, _≤_}
+use Prim.Native.Nat.{ℕ, _≤_, _<_}
 use native.Mathlib.Omega.{arith}
 use borrow.Author.Needs.{needs}
-use borrow.Author.Tests.{ltb-false, not-false}
-use lib.Dec.{T, eqb, ltb, eqb→eq}
+use borrow.Author.Tests.{ltb-false, eqb-true, not-false}
+use lib.Dec.{T, eqb, ltb, ltb→lt, eqb→eq}
 use Rattle.toolbox_theory.specs.Lists.{among}
 use Rattle.toolbox_theory.proofs.Tests.{by-test}
-use Rattle.toolbox_theory.proofs.ListLaws.{upTo, at-most}
+use Rattle.toolbox_theory.proofs.ListLaws.{neither, or-cases, upTo, at-most}
 use Rattle.scenario_theory.specs.declared.Scenario.{Scenario}
 use Rattle.scenario_theory.specs.Checks.{Range, beyond, _when_}
-use Rattle.scenario_theory.specs.Refusal.{Limits, idriss, booreAtkinson, refusalBy, refusalOf}
+use Rattle.scenario_theory.specs.Refusal.{Limits, idriss, booreAtkinson, answeredPeriods, isOutside, refusalBy}
+use Rattle.scenario_theory.specs.Refusal.{refusalOf}
 use Rattle.scenario_theory.proofs.CheckLaws.{none-of, not-when}
 
 -- ---- a scenario that is not refused is within the limits of its model
@@ -25,14 +25,35 @@ pub record Within (m : Limits) (s : Scenario) : Type 0 where
   pub velocity-low : m .velocity .low ≤ s .velocity
   pub velocity-high : s .velocity ≤ m .velocity .high
   pub mechanism : among (m .mechanisms) (s .mechanism) ≡ true
-  pub period : among (0 ∷ m .periods) (s .period) ≡ true
-
-neither : (a b : Bool) → (a || b) ≡ false → (a ≡ false) × (b ≡ false)
-neither true b e = absurd (true≢false e)
-neither false b e = (refl, e)
+  pub period : isOutside (s .period) ≡ false
 
 not-beyond : (r : Range) (x : ℕ) → beyond r x ≡ false → (r .low ≤ x) × (x ≤ r .high)
 not-beyond r x e = let p = neither (ltb x (r .low)) (ltb (r .high) x) e in omega (arith, ltb-false)
+
+-- a period that is answered is 0, or from 10 to 10000, both included, and no other is
+beyond-is : (r : Range) (x : ℕ) → beyond r x ≡ true → (x < r .low) ⊎ (r .high < x)
+beyond-is r x e =
+    ⊎-elim (λ p. inl (ltb→lt x (r .low) (rw p tt))) (λ p. inr (ltb→lt (r .high) x (rw p tt)))
+    (or-cases (ltb x (r .low)) (ltb (r .high) x) e)
+
+unless-zero : (b c : Bool) → (not b && c) ≡ false → (b ≡ true) ⊎ (c ≡ false)
+unless-zero true c e = inl refl
+unless-zero false c e = inr e
+
+other-than-zero : (b c : Bool) → (not b && c) ≡ true → c ≡ true
+other-than-zero true c e = absurd (false≢true e)
+other-than-zero false c e = e
+
+module _ (t : ℕ) where
+  pub answered : isOutside t ≡ false → (t ≡ 0) ⊎ ((answeredPeriods .low ≤ t) × (t ≤ answeredPeriods .high))
+  unfolding isOutside
+  answered e =
+      ⊎-elim (λ p. inl (eqb-true t 0 p)) (λ p. inr (not-beyond answeredPeriods t p))
+      (unless-zero (eqb t 0) (beyond answeredPeriods t) e)
+
+  pub not-answered : isOutside t ≡ true → (t < answeredPeriods .low) ⊎ (answeredPeriods .high < t)
+  unfolding isOutside
+  not-answered e = beyond-is answeredPeriods t (other-than-zero (eqb t 0) (beyond answeredPeriods t) e)
 
 pub within : (m : Limits) (s : Scenario) → refusalBy m s ≡ 0 → Within m s
 unfolding refusalBy
@@ -45,7 +66,7 @@ within m s e =
     let distance = not-beyond (m .distance) (s .distance) (not-when 2 _ (three .0)) in
     let velocity = not-beyond (m .velocity) (s .velocity) (not-when 3 _ (four .0)) in
     let mechanism = not-false (among (m .mechanisms) (s .mechanism)) (not-when 4 _ (five .0)) in
-    let period = not-false (among (0 ∷ m .periods) (s .period)) (not-when 5 _ (five .1)) in
+    let period = not-when 5 (isOutside (s .period)) (five .1) in
     search needs
 
 -- its model is 1 or 2
@@ -78,13 +99,12 @@ pub record Sizes (s : Scenario) : Type 0 where
 -- as no limit of a model is
 sizes-by : (m : Limits) (s : Scenario) →
     (m .magnitude .high ≤ 800) × (m .distance .high ≤ 19_999) × (m .velocity .high ≤ 20_000) →
-    T (upTo 9 (m .mechanisms)) → T (upTo 10_000 (0 ∷ m .periods)) → s .model ≤ 2 → Within m s → Sizes s
-sizes-by m s h codes periods k w =
+    T (upTo 9 (m .mechanisms)) → s .model ≤ 2 → Within m s → Sizes s
+sizes-by m s h codes k w =
     let mechanism = at-most 9 (m .mechanisms) (s .mechanism) codes (w .mechanism) in
-    let period = at-most 10_000 (0 ∷ m .periods) (s .period) periods (w .period) in
-    omega arith
+    ⊎-elim (λ p. omega arith) (λ p. omega arith) (answered (s .period) (w .period))
 
 pub sizes : (s : Scenario) → refusalOf s ≡ 0 → Sizes s
 sizes s e =
-    ⊎-elim (λ p. sizes-by idriss s (omega arith) tt tt (omega arith) (p .1))
-    (λ p. sizes-by booreAtkinson s (omega arith) tt tt (omega arith) (p .1)) (of-model s e)
+    ⊎-elim (λ p. sizes-by idriss s (omega arith) tt (omega arith) (p .1))
+    (λ p. sizes-by booreAtkinson s (omega arith) tt (omega arith) (p .1)) (of-model s e)

@@ -1,120 +1,239 @@
 -- Where a period stands in the tables of a model.
 use mathlib.Core.Path.{_≡_, refl, sym, ap, _∙_}
-use mathlib.Core.Bool.{Bool, true, false, not, cond, _&&_, _||_}
+use mathlib.Core.Bool.{Bool, true, false, false≢true, not, cond, _&&_}
 use mathlib.Core.List.{List, _∷_}
 use mathlib.Core.Logic.{⊎-elim}
-use Prim.Native.Nat.{ℕ, zero, suc, _+_, _-_, _<_}
+use Prim.Native.Nat.{ℕ, zero, suc, _+_, _-_, _≤_, _<_}
+use native.Mathlib.Decide.{decLt}
 use native.Mathlib.Omega.{arith}
-use borrow.Author.Tests.{ne-eqb}
+use borrow.Author.Tests.{eq-eqb, ne-eqb, lt-ltb, le-ltb, not-true}
 use lib.Dec.{T, eqb, ltb, ltb→lt, eqb→eq}
-use lib.ListN.{length}
+use lib.ListN.{length, getD}
 use Rattle.toolbox_theory.specs.Lists.{among, countBelow}
-use Rattle.toolbox_theory.proofs.Tests.{both, by-test}
-use Rattle.toolbox_theory.proofs.ListLaws.{Missed, earlier, missed, all, all-at, rising, between-places}
+use Rattle.toolbox_theory.proofs.Tests.{is-true, each, by-test, allBelow, below}
+use Rattle.toolbox_theory.proofs.ListLaws.{Missed, earlier, missed, or-right, neither, all, all-at, rising, Around, around, among-at}
+use Rattle.toolbox_theory.proofs.ListLaws.{between-places, greatest-below, least-above}
 use Rattle.scenario_theory.specs.declared.Scenario.{Scenario}
 use Rattle.scenario_theory.specs.declared.Check.{Check}
 use Rattle.scenario_theory.specs.declared.Check.the-variants as C
+use Rattle.scenario_theory.specs.declared.RowPeriods.{RowPeriods}
+use Rattle.scenario_theory.specs.declared.RowPeriods.the-variants as R
 use Rattle.scenario_theory.specs.declared.Place.{Place}
 use Rattle.scenario_theory.specs.declared.Place.the-variants as P
-use Rattle.scenario_theory.specs.Checks.{beyond, _when_, _otherwise_}
-use Rattle.scenario_theory.specs.Refusal.{Limits, idriss, booreAtkinson, refusalBy, refusalOf}
-use Rattle.scenario_theory.specs.Rows.{Looked, BetweenRows, isRow, rowIn, checkAt, checkBy, checkOf, idrissRow}
+use Rattle.scenario_theory.specs.Checks.{beyond, _when_, _otherwise_, unlessRefused}
+use Rattle.scenario_theory.specs.Refusal.{Limits, idriss, booreAtkinson, answeredPeriods, isOutside, refusalBy}
+use Rattle.scenario_theory.specs.Refusal.{refusalOf}
+use Rattle.scenario_theory.specs.Neighbours.{isTabled, neighbourBelow, neighbourAbove, idrissPrinted, rowPeriodsBy}
+use Rattle.scenario_theory.specs.Rows.{Looked, BetweenRows, placeBy, placeOf, checkBy, checkOf, idrissRow}
 use Rattle.scenario_theory.specs.Rows.{booreAtkinsonRow, rowCount, placeAmong, idrissPlace, booreAtkinsonPlace}
-use Rattle.scenario_theory.proofs.CheckLaws.{first-of-three, same-unless, unless-is}
-use Rattle.scenario_theory.proofs.RefusalLaws.{within}
+use Rattle.scenario_theory.specs.Rows.{periodsAt, InTable}
+use Rattle.scenario_theory.proofs.CheckLaws.{is-first, first-of-three, is-refused, unless-is}
+use Rattle.scenario_theory.proofs.RefusalLaws.{answered, not-answered}
 
 -- ---- the row of a tabled period
 
-pub idriss-row : (period : ℕ) → among (0 ∷ idriss .periods) period ≡ true → idrissRow period < rowCount
+pub idriss-row : (period : ℕ) → isTabled idriss period ≡ true → idrissRow period < rowCount
 unfolding idrissRow
 idriss-row period e = ltb→lt _ _ (all-at (λ t. ltb (idrissRow t) rowCount) (0 ∷ idriss .periods) period tt e)
 
-pub boore-atkinson-row : (period : ℕ) → among (0 ∷ booreAtkinson .periods) period ≡ true →
-    booreAtkinsonRow period < rowCount
+pub boore-atkinson-row : (period : ℕ) → isTabled booreAtkinson period ≡ true → booreAtkinsonRow period < rowCount
 unfolding booreAtkinsonRow
 boore-atkinson-row period e =
     ltb→lt _ _ (all-at (λ t. ltb (booreAtkinsonRow t) rowCount) (0 ∷ booreAtkinson .periods) period tt e)
 
--- ---- the place of a period: a row exactly where it is 0 or tabled, and then its row
+-- ---- the place of a period
 
--- what a look-up has shown, by the place that it gave
-pub record Placed (periods : List ℕ) (own : ℕ → ℕ) (T : ℕ) (p : Place) : Type 0 where
-  pub accepted : isRow p ≡ among (0 ∷ periods) T
-  pub row : among (0 ∷ periods) T ≡ true → rowIn p ≡ own T
+-- a look-up gave row k
+abbrev isRow : ℕ → Check → Bool
+isRow k (C.Accepted (P.Row j)) = eqb j k
+isRow k (C.Accepted (P.Between j)) = false
+isRow k (C.Refused j) = false
 
-one-of : (a b c : Bool) (j k l : ℕ) →
-    isRow (cond a (P.Row j) (cond b (P.Row k) (cond c (P.Between l) P.Outside))) ≡ (a || b)
-one-of true b c j k l = refl
-one-of false true c j k l = refl
-one-of false false true j k l = refl
-one-of false false false j k l = refl
+row-is : (k : ℕ) (c : Check) → T (isRow k c) → c ≡ C.Accepted (P.Row k)
+row-is k (C.Accepted (P.Row j)) t = ap (λ i. C.Accepted (P.Row i)) (eqb→eq j k t)
+row-is k (C.Accepted (P.Between j)) t = absurd t
+row-is k (C.Refused j) t = absurd t
 
--- for any list
-module _ (first : ℕ) (periods : List ℕ) where
-  abbrev place : ℕ → Place
-  place T = cond (eqb T 0) (P.Row 0) (placeAmong first periods T)
+-- in the tables of a model with the limits m, the first of whose periods has row `first`, and t row `row t`
+module _ (first : ℕ) (m : Limits) (row : ℕ → ℕ) where
+  abbrev count : ℕ → ℕ
+  count t = countBelow (m .periods) t
 
-  placed : (own : ℕ → ℕ) → T (all (λ t. eqb (rowIn (place t)) (own t)) (0 ∷ periods)) → (T : ℕ) →
-      Placed periods own T (place T)
-  unfolding placeAmong
-  placed own t T =
-      let n = countBelow periods T in
-      record {
-        accepted = one-of (eqb T 0) (among periods T) (ltb 0 n && ltb n (length periods)) 0 _ _;
-        row = λ e. eqb→eq _ _ (all-at (λ t. eqb (rowIn (place t)) (own t)) (0 ∷ periods) T t e);
-      }
+  -- by counting
+  abbrev place : ℕ → Check
+  place t = cond (eqb t 0) (C.Accepted (P.Row 0)) (placeAmong first (m .periods) t)
+
+  -- what is computed once of the list
+  pub record Listed : Type 0 where
+    rises : T (rising (m .periods))
+    answers : T (all (λ t. not (isOutside t)) (0 ∷ m .periods))
+    tabled : T (all (λ t. isRow (row t) (place t)) (0 ∷ m .periods))
+    numbered : T (allBelow (length (m .periods)) (λ i. eqb (row (getD (m .periods) i 0)) (first + i)))
+    some : 1 ≤ length (m .periods)
+    least : getD (m .periods) 0 0 ≡ answeredPeriods .low
+    greatest : getD (m .periods) (length (m .periods) - 1) 0 ≡ answeredPeriods .high
+
+  module _ (l : Listed) (t : ℕ) where
+    abbrev n : ℕ
+    n = countBelow (m .periods) t
+
+    -- a period is after some of the list, and before some
+    abbrev Inside : Type 0
+    Inside = (0 < n) × (n < length (m .periods))
+
+    ends : Around (m .periods) t 0 × Around (m .periods) t (length (m .periods) - 1)
+    ends = (
+      around (m .periods) t (l .rises) 0 (omega (arith, l .some)),
+      around (m .periods) t (l .rises) (length (m .periods) - 1) (omega (arith, l .some)),
+    )
+
+    -- just where it is answered, if it is not in the list
+    answered-inside : isTabled m t ≡ false → isOutside t ≡ false → Inside
+    answered-inside none ok =
+        let not-in = neither (eqb t 0) (among (m .periods) t) none in
+        let first-in = among-at (m .periods) 0 (l .some) in
+        let other : t ≡ answeredPeriods .low → ⊥ = λ e. false≢true (sym (not-in .1) ∙ rw (e, ← l .least) first-in) in
+        let some : t ≡ 0 → ⊥ = λ e. false≢true (sym (not-in .0) ∙ eq-eqb t 0 e) in
+        let low : n ≤ 0 → t ≤ answeredPeriods .low = rw (l .least) at (ends .0 .above) in
+        let high : length (m .periods) - 1 < n → answeredPeriods .high < t = rw (l .greatest) at (ends .1 .below) in
+        ⊎-elim (λ e. absurd (some e))
+        (λ p. (
+          elim (decLt 0 n) [ yes h ↦ h | no h ↦ absurd (omega (arith, low (omega arith), p .0, other)) ],
+          elim (decLt n (length (m .periods))) [ yes h ↦ h | no h ↦ absurd (omega (arith, high (omega (arith, l .some)), p .1)) ],
+        ))
+        (answered t ok)
+
+    outside-inside : isOutside t ≡ true → Inside → ⊥
+    outside-inside e h =
+        let low : 0 < n → answeredPeriods .low < t = rw (l .least) at (ends .0 .below) in
+        let high : n ≤ length (m .periods) - 1 → t ≤ answeredPeriods .high = rw (l .greatest) at (ends .1 .above) in
+        ⊎-elim (λ p. absurd (omega (arith, p, low (h .0)))) (λ p. absurd (omega (arith, p, high (omega (arith, h .1)))))
+        (not-answered t e)
+
+    -- then its neighbours are in the places before and after
+    number : (i : ℕ) → i < length (m .periods) → row (getD (m .periods) i 0) ≡ first + i
+    number i h =
+        eqb→eq _ _ (below (length (m .periods)) (λ i. eqb (row (getD (m .periods) i 0)) (first + i)) (l .numbered) i h)
+
+    module _ (none : isTabled m t ≡ false) (ok : isOutside t ≡ false) where
+      inside : Inside
+      inside = answered-inside none ok
+
+      not-listed : among (m .periods) t ≡ false
+      not-listed = neither (eqb t 0) (among (m .periods) t) none .1
+
+      below-is : neighbourBelow m t ≡ getD (m .periods) (n - 1) 0
+      unfolding neighbourBelow
+      below-is = greatest-below (m .periods) t (n - 1) (l .rises) (omega (arith, inside)) (omega (arith, inside))
+
+      above-is : neighbourAbove m t ≡ getD (m .periods) n 0
+      unfolding neighbourAbove
+      above-is = least-above (m .periods) t n (l .rises) not-listed refl (inside .1)
+
+      between-rows : BetweenRows m row t
+      between-rows =
+          let here : n - 1 + 1 ≡ n = omega (arith, inside .0) in
+          let r = between-places (m .periods) t (n - 1) (l .rises) not-listed here (omega (arith, here, inside .1)) in
+          let before = number (n - 1) (omega (arith, inside)) in
+          record {
+            first = rw below-is (among-at (m .periods) (n - 1) (omega (arith, inside)));
+            second = rw above-is (among-at (m .periods) n (inside .1));
+            above = rw below-is (r .0);
+            below = rw above-is (rw here at (r .1));
+            next = rw (below-is, above-is) (omega (arith, before, number n (inside .1), inside .0));
+          }
+
+    -- and the place by counting is that of the definitions
+    abbrev Placed : Bool → Type 0
+    Placed outside = place t ≡ unlessRefused (6 when outside) (C.Accepted (placeBy m row t)) (C.Refused 6)
+
+    untabled : (outside : Bool) → isTabled m t ≡ false → isOutside t ≡ outside → Placed outside
+    unfolding placeAmong
+    untabled false none e =
+        let h = answered-inside none e in
+        let not-in = neither (eqb t 0) (among (m .periods) t) none in
+        let before = below-is none e in
+        let k = number (n - 1) (omega (arith, h)) in
+        rw (not-in .0, not-in .1, lt-ltb 0 n (h .0), lt-ltb n (length (m .periods)) (h .1), before, k)
+        (ap (λ i. C.Accepted (P.Between i)) (omega (arith, h .0)))
+    untabled true none e =
+        let not-in = neither (eqb t 0) (among (m .periods) t) none in
+        rw (not-in .0, not-in .1)
+        (by-test (ltb 0 n && ltb n (length (m .periods))) (λ c. c ≡ C.Refused 6)
+        (λ q. absurd (outside-inside e (each (ltb 0 n) (ltb n (length (m .periods))) (ltb→lt _ _) (ltb→lt _ _) q)))
+        (λ _. refl))
+
+    by-tabled : (tabled : Bool) → isTabled m t ≡ tabled → Placed (isOutside t)
+    by-tabled true e =
+        let ok = not-true (isOutside t) (is-true _ (all-at (λ t. not (isOutside t)) (0 ∷ m .periods) t (l .answers) e)) in
+        let k = row-is (row t) (place t) (all-at (λ t. isRow (row t) (place t)) (0 ∷ m .periods) t (l .tabled) e) in
+        rw (ok, e) k
+    by-tabled false e = untabled (isOutside t) e refl
+
+    placed : Placed (isOutside t)
+    placed = by-tabled (isTabled m t) refl
 
   -- the place of a period that is neither 0 nor in the list
-  pub untabled : (T : ℕ) {n : ℕ} {p : Place} → Missed (Unit {0}) (0 ∷ periods) T → n ≡ countBelow periods T →
-      p ≡ cond (ltb 0 n && ltb n (length periods)) (P.Between (first + n - 1)) P.Outside →
-      p ≡ cond (eqb T 0) (P.Row 0) (placeAmong first periods T)
+  pub in-no-row : (t : ℕ) {n : ℕ} {c : Check} → Missed (Unit {0}) (0 ∷ m .periods) t → n ≡ countBelow (m .periods) t →
+      c ≡ cond (ltb 0 n && ltb n (length (m .periods))) (C.Accepted (P.Between (first + n - 1))) (C.Refused 6) →
+      c ≡ cond (eqb t 0) (C.Accepted (P.Row 0)) (placeAmong first (m .periods) t)
   unfolding placeAmong
-  untabled T m count e =
-      let before = Unit {0} × (T ≡ 0 → ⊥) in
-      rw (ne-eqb T 0 (earlier before periods T m .1), missed before periods T m, e, count) refl
+  in-no-row t other count e =
+      let before = Unit {0} × (t ≡ 0 → ⊥) in
+      rw (ne-eqb t 0 (earlier before (m .periods) t other .1), missed before (m .periods) t other, e, count) refl
 
-pub idriss-placed : (period : ℕ) {p : Place} → p ≡ idrissPlace period →
-    Placed (idriss .periods) idrissRow period p
-unfolding idrissPlace placeAmong countBelow idrissRow
-idriss-placed period e = rw e (placed 0 (idriss .periods) idrissRow tt period)
+-- ---- of either model
 
-pub boore-atkinson-placed : (period : ℕ) {p : Place} → p ≡ booreAtkinsonPlace period →
-    Placed (booreAtkinson .periods) booreAtkinsonRow period p
-unfolding booreAtkinsonPlace placeAmong countBelow booreAtkinsonRow
-boore-atkinson-placed period e = rw e (placed 1 (booreAtkinson .periods) booreAtkinsonRow tt period)
+idriss-listed : Listed 0 idriss idrissRow
+unfolding idrissRow placeAmong countBelow isOutside allBelow
+idriss-listed = record {
+  rises = tt;
+  answers = tt;
+  tabled = tt;
+  numbered = tt;
+  some = omega arith;
+  least = refl;
+  greatest = refl;
+}
 
--- a period that is placed between two rows lies there
-module _ (first : ℕ) (periods : List ℕ) (rises : T (rising periods)) (t k : ℕ) where
-  abbrev n : ℕ
-  n = countBelow periods t
+boore-atkinson-listed : Listed 1 booreAtkinson booreAtkinsonRow
+unfolding booreAtkinsonRow placeAmong countBelow isOutside allBelow
+boore-atkinson-listed = record {
+  rises = tt;
+  answers = tt;
+  tabled = tt;
+  numbered = tt;
+  some = omega arith;
+  least = refl;
+  greatest = refl;
+}
 
-  between-by : (a b : Bool) → among periods t ≡ a → (ltb 0 n && ltb n (length periods)) ≡ b →
-      cond a (P.Row (first + n)) (cond b (P.Between (first + n - 1)) P.Outside) ≡ P.Between k →
-      BetweenRows first periods t k
-  between-by true b p q e = let z : _≡_ {A = ℕ} 0 1 = cc in absurd (omega arith)
-  between-by false false p q e = let z : _≡_ {A = ℕ} 0 1 = cc in absurd (omega arith)
-  between-by false true p q e =
-      let same : first + n - 1 ≡ k = cc in
-      let some = both (ltb 0 n) (ltb n (length periods)) (rw q tt) in
-      let low = ltb→lt 0 n (some .0) in
-      let high = ltb→lt n (length periods) (some .1) in
-      let r = between-places periods t (k - first) rises p (omega arith) (omega arith) in
-      record { above = r .0; below = r .1 }
+module _ (t : ℕ) (none : isTabled idriss t ≡ false) (ok : isOutside t ≡ false) where
+  pub idriss-between : BetweenRows idriss idrissRow t
+  idriss-between = between-rows 0 idriss idrissRow idriss-listed t none ok
 
-  between : place first periods t ≡ P.Between k → BetweenRows first periods t k
-  unfolding placeAmong
-  between =
-      by-test (eqb t 0) (λ p. p ≡ P.Between k → BetweenRows first periods t k)
-      (λ _ e. let z : _≡_ {A = ℕ} 0 1 = cc in absurd (omega arith)) (λ _. between-by _ _ refl refl)
+module _ (t : ℕ) (none : isTabled booreAtkinson t ≡ false) (ok : isOutside t ≡ false) where
+  pub boore-atkinson-between : BetweenRows booreAtkinson booreAtkinsonRow t
+  boore-atkinson-between = between-rows 1 booreAtkinson booreAtkinsonRow boore-atkinson-listed t none ok
 
-pub idriss-between : (t k : ℕ) → idrissPlace t ≡ P.Between k → BetweenRows 0 (idriss .periods) t k
-unfolding idrissPlace
-idriss-between = between 0 (idriss .periods) tt
+-- what the place of a period says of it
+module _ (m : Limits) (row : ℕ → ℕ) (t : ℕ) where
+  pub at-row : {k : ℕ} → placeBy m row t ≡ P.Row k → (isTabled m t ≡ true) × (k ≡ row t)
+  at-row = go (isTabled m t) refl
+    where
+      go : (b : Bool) {k : ℕ} → isTabled m t ≡ b →
+          cond b (P.Row (row t)) (P.Between (row (neighbourBelow m t))) ≡ P.Row k → (isTabled m t ≡ true) × (k ≡ row t)
+      go true p e = (p, cc)
+      go false p e = let z : _≡_ {A = ℕ} 0 1 = cc in absurd (omega arith)
 
-pub boore-atkinson-between : (t k : ℕ) → booreAtkinsonPlace t ≡ P.Between k →
-    BetweenRows 1 (booreAtkinson .periods) t k
-unfolding booreAtkinsonPlace
-boore-atkinson-between = between 1 (booreAtkinson .periods) tt
+  pub between-of : {k : ℕ} → placeBy m row t ≡ P.Between k → (isTabled m t ≡ false) × (k ≡ row (neighbourBelow m t))
+  between-of = go (isTabled m t) refl
+    where
+      go : (b : Bool) {k : ℕ} → isTabled m t ≡ b →
+          cond b (P.Row (row t)) (P.Between (row (neighbourBelow m t))) ≡ P.Between k →
+          (isTabled m t ≡ false) × (k ≡ row (neighbourBelow m t))
+      go true p e = let z : _≡_ {A = ℕ} 0 1 = cc in absurd (omega arith)
+      go false p e = (p, cc)
 
 -- Boore-Atkinson's periods are Idriss's without 40, the fourth
 fourth-first : (a b c d rest : ℕ) → a + (b + (c + (d + rest))) ≡ d + (a + (b + (c + rest)))
@@ -125,11 +244,99 @@ pub count-without-40 : (period : ℕ) →
 unfolding countBelow
 count-without-40 period = fourth-first _ _ _ _ _
 
--- ---- the checks of a program are those of a model's column, one by one
+-- so its periods by row are Idriss's, one row later up to 0.03 s
+abbrev byIdriss : ℕ → ℕ
+byIdriss k =
+    cond (eqb k 0) 0 (cond (ltb k 4) (getD (idriss .periods) (k - 1) 0) (getD (idriss .periods) k 0))
 
-refused-at : (k : ℕ) (p : Place) → (k ≡ 0 → ⊥) → C.Refused k ≡ checkAt k p
-refused-at zero p h = absurd (h refl)
-refused-at (suc k) p h = refl
+by-idriss : (k : ℕ) → k < rowCount → getD (0 ∷ booreAtkinson .periods) k 0 ≡ byIdriss k
+unfolding allBelow
+by-idriss k h = eqb→eq _ _ (below rowCount (λ k. eqb (getD (0 ∷ booreAtkinson .periods) k 0) (byIdriss k)) tt k h)
+
+module _ {k : ℕ} (some : k ≡ 0 → ⊥) where
+  pub period-up-to-30 : k < 4 → getD (idriss .periods) (k - 1) 0 ≡ getD (0 ∷ booreAtkinson .periods) k 0
+  period-up-to-30 h = sym (by-idriss k (omega (arith, h)) ∙ rw (ne-eqb k 0 some, lt-ltb k 4 h) refl)
+
+  pub period-from-50 : 4 ≤ k → k < rowCount → getD (idriss .periods) k 0 ≡ getD (0 ∷ booreAtkinson .periods) k 0
+  period-from-50 h few = sym (by-idriss k few ∙ rw (ne-eqb k 0 some, le-ltb k 4 h) refl)
+
+-- the period of the row of a tabled period is that period; Idriss's row 0 is that of 0.01 s
+pub idriss-printed : (t : ℕ) → isTabled idriss t ≡ true → getD (idriss .periods) (idrissRow t) 0 ≡ idrissPrinted t
+unfolding idrissRow
+idriss-printed t e =
+    eqb→eq _ _
+    (all-at (λ t. eqb (getD (idriss .periods) (idrissRow t) 0) (idrissPrinted t)) (0 ∷ idriss .periods) t tt e)
+
+pub boore-atkinson-printed : (t : ℕ) → isTabled booreAtkinson t ≡ true →
+    getD (0 ∷ booreAtkinson .periods) (booreAtkinsonRow t) 0 ≡ t
+unfolding booreAtkinsonRow
+boore-atkinson-printed t e =
+    eqb→eq _ _
+    (all-at (λ t. eqb (getD (0 ∷ booreAtkinson .periods) (booreAtkinsonRow t) 0) t) (0 ∷ booreAtkinson .periods) t tt e)
+
+-- ---- the periods of the rows, by a list of the periods of the rows
+
+module _ (first : ℕ) (m : Limits) (row : ℕ → ℕ) (l : Listed first m row)
+    (few : (t : ℕ) → isTabled m t ≡ true → row t < rowCount) (t : ℕ) where
+  tabled-at : (t : ℕ) → among (m .periods) t ≡ true → isTabled m t ≡ true
+  tabled-at t e = or-right (eqb t 0) e
+
+  -- what holds of the place by the definitions holds of that by counting
+  by-place : (K : Check → Type 0) → (isOutside t ≡ true → K (C.Refused 6)) →
+      (isTabled m t ≡ true → isOutside t ≡ false → K (C.Accepted (P.Row (row t)))) →
+      (BetweenRows m row t → isTabled m t ≡ false → isOutside t ≡ false →
+      K (C.Accepted (P.Between (row (neighbourBelow m t))))) → K (place first m row t)
+  by-place K out at between = rw (placed first m row l t) (outside (isOutside t) refl)
+    where
+      tabled : (b : Bool) → isTabled m t ≡ b → isOutside t ≡ false →
+          K (C.Accepted (cond b (P.Row (row t)) (P.Between (row (neighbourBelow m t)))))
+      tabled true e ok = at e ok
+      tabled false e ok = between (between-rows first m row l t e ok) e ok
+
+      outside : (b : Bool) → isOutside t ≡ b →
+          K (unlessRefused (6 when b) (C.Accepted (placeBy m row t)) (C.Refused 6))
+      outside true e = out e
+      outside false e = tabled (isTabled m t) refl e
+
+  in-table : InTable (place first m row t)
+  in-table =
+      by-place InTable (λ _. tt) (λ e _. few t e)
+      (λ b _ _. omega (arith, few (neighbourAbove m t) (tabled-at _ (b .second)), b .next))
+
+  periods-by-row : (printed : ℕ → ℕ) (list : List ℕ) →
+      ((t : ℕ) → isTabled m t ≡ true → getD list (row t) 0 ≡ printed t) →
+      ((t : ℕ) → among (m .periods) t ≡ true → printed t ≡ t) →
+      periodsAt list (place first m row t) ≡ rowPeriodsBy m printed t
+  unfolding rowPeriodsBy
+  periods-by-row printed list reads same =
+      let at : (t : ℕ) → among (m .periods) t ≡ true → getD list (row t) 0 ≡ t =
+      λ t e. reads t (tabled-at t e) ∙ same t e in
+      by-place (λ c. periodsAt list c ≡ rowPeriodsBy m printed t) (λ e. rw e refl)
+      (λ e ok. rw (ok, e, reads t e) refl)
+      (λ b e ok. rw (ok, e, ← b .next, at _ (b .first), at _ (b .second)) refl)
+
+pub idriss-in-table : (t : ℕ) → InTable (idrissPlace t)
+unfolding idrissPlace
+idriss-in-table t = in-table 0 idriss idrissRow idriss-listed idriss-row t
+
+pub boore-atkinson-in-table : (t : ℕ) → InTable (booreAtkinsonPlace t)
+unfolding booreAtkinsonPlace
+boore-atkinson-in-table t = in-table 1 booreAtkinson booreAtkinsonRow boore-atkinson-listed boore-atkinson-row t
+
+pub idriss-periods : (t : ℕ) → periodsAt (idriss .periods) (idrissPlace t) ≡ rowPeriodsBy idriss idrissPrinted t
+unfolding idrissPlace
+idriss-periods t =
+    periods-by-row 0 idriss idrissRow idriss-listed idriss-row t idrissPrinted (idriss .periods) idriss-printed
+    (λ t e. eqb→eq _ _ (all-at (λ t. eqb (idrissPrinted t) t) (idriss .periods) t tt e))
+
+pub boore-atkinson-periods : (t : ℕ) →
+    periodsAt (0 ∷ booreAtkinson .periods) (booreAtkinsonPlace t) ≡ rowPeriodsBy booreAtkinson (λ t. t) t
+unfolding booreAtkinsonPlace
+boore-atkinson-periods t =
+    periods-by-row 1 booreAtkinson booreAtkinsonRow boore-atkinson-listed boore-atkinson-row t (λ t. t)
+    (0 ∷ booreAtkinson .periods) boore-atkinson-printed (λ t e. refl)
+
+-- ---- the checks of a program are those of a model's column, one by one
 
 -- the first of the checks before the period's
 abbrev pub numberBefore : Limits → Scenario → ℕ
@@ -139,27 +346,46 @@ numberBefore m s =
     4 when beyond (m .velocity) (s .velocity) otherwise
     5 when not (among (m .mechanisms) (s .mechanism))
 
--- a scenario that is not refused has a tabled period
-module _ (m : Limits) (own : ℕ → ℕ) (s : Scenario) {p : Place} (placed : Placed (m .periods) own (s .period) p)
-    {k : ℕ} (e : k ≡ numberBefore m s) where
-  by-limits : checkAt k p ≡ checkBy m own s
-  unfolding checkBy refusalBy
-  by-limits =
-      rw (e, placed .accepted, first-of-three, first-of-three, first-of-three)
-      (same-unless _ _ (λ none. ap C.Accepted (placed .row (within m s none .period))))
+with-number : (b : Bool) (c : Check) →
+    unlessRefused (6 when b) c (C.Refused 6) ≡ unlessRefused (6 when b) c (C.Refused (6 when b))
+with-number true c = refl
+with-number false c = refl
 
-  pub earlier-check : (k ≡ 0 → ⊥) → C.Refused k ≡ checkBy m own s
-  earlier-check some = refused-at k p some ∙ by-limits
+module _ (m : Limits) (row : ℕ → ℕ) (s : Scenario) {k : ℕ} (e : k ≡ numberBefore m s) where
+  refusal-is : refusalBy m s ≡ (k otherwise 6 when isOutside (s .period))
+  unfolding refusalBy
+  refusal-is = rw (e, first-of-three, first-of-three, first-of-three) refl
 
-  pub last-check : {r : Check} → k ≡ 0 → r ≡ checkAt 0 p → r ≡ checkBy m own s
-  last-check none h = h ∙ (rw none at by-limits)
+  pub earlier-check : (k ≡ 0 → ⊥) → C.Refused k ≡ checkBy m row s
+  unfolding checkBy
+  earlier-check some =
+      rw (refusal-is, ← is-first k (6 when isOutside (s .period)) some) (is-refused k _ (C.Refused k) some)
+
+  last-check : {r : Check} → k ≡ 0 →
+      r ≡ unlessRefused (6 when isOutside (s .period)) (C.Accepted (placeBy m row (s .period))) (C.Refused 6) →
+      r ≡ checkBy m row s
+  unfolding checkBy
+  last-check none h = h ∙ rw (refusal-is, none) (with-number (isOutside (s .period)) _)
+
+pub idriss-last : (s : Scenario) {k : ℕ} {r : Check} → k ≡ numberBefore idriss s → k ≡ 0 →
+    r ≡ idrissPlace (s .period) → r ≡ checkBy idriss idrissRow s
+unfolding idrissPlace
+idriss-last s e none h =
+    last-check idriss idrissRow s e none (h ∙ placed 0 idriss idrissRow idriss-listed (s .period))
+
+pub boore-atkinson-last : (s : Scenario) {k : ℕ} {r : Check} → k ≡ numberBefore booreAtkinson s → k ≡ 0 →
+    r ≡ booreAtkinsonPlace (s .period) → r ≡ checkBy booreAtkinson booreAtkinsonRow s
+unfolding booreAtkinsonPlace
+boore-atkinson-last s e none h =
+    last-check booreAtkinson booreAtkinsonRow s e none
+    (h ∙ placed 1 booreAtkinson booreAtkinsonRow boore-atkinson-listed (s .period))
 
 -- ---- what a check has shown
 
-pub passed : (s : Scenario) {row : ℕ} → checkOf s ≡ C.Accepted row → Looked s row
+pub passed : (s : Scenario) {p : Place} → checkOf s ≡ C.Accepted p → Looked s p
 unfolding checkOf
 passed s e =
-    ⊎-elim (λ p. record { accepted = p .0; row = cc }) (λ p. record { accepted = cc; row = cc })
+    ⊎-elim (λ p. record { accepted = p .0; place = cc }) (λ p. record { accepted = cc; place = cc })
     (unless-is (refusalOf s) e)
 
 -- the number of a check that fails is not 0

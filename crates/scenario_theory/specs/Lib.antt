@@ -1,3 +1,4 @@
 pub mod Checks
 pub mod Refusal
+pub mod Neighbours
 pub mod Rows

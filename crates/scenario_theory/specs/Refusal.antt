@@ -1,6 +1,6 @@
 -- Which scenarios each model takes, and the number of the first check that a scenario fails. Document 01, 'The
--- scenario' and 'What is turned away'.
-use mathlib.Core.Bool.{not, cond}
+-- scenario' and 'What is turned away'; document 02, W-201, for the period.
+use mathlib.Core.Bool.{Bool, not, cond, _&&_}
 use mathlib.Core.List.{List, [], _∷_}
 use Prim.Native.Nat.{ℕ}
 use lib.Dec.{eqb}
@@ -45,6 +45,14 @@ booreAtkinson =
       periods = idrissPeriods without 40;
     }
 
+-- the periods that both models answer beside 0: "A whole number of thousandths from 10 to 10000" (W-201)
+abbrev pub answeredPeriods : Range
+answeredPeriods = 10 to 10_000
+
+-- "Refusal 6 is left with 1 to 9 and above 10000" (W-201)
+unfoldable pub isOutside : ℕ → Bool
+isOutside T = not (eqb T 0) && beyond answeredPeriods T
+
 -- 'What is turned away', 2 to 6: the first that applies to s by the limits of its model, 0 where none does
 unfoldable pub refusalBy : Limits → Scenario → ℕ
 refusalBy m s =
@@ -52,7 +60,7 @@ refusalBy m s =
     3 when beyond (m .distance) (s .distance) otherwise
     4 when beyond (m .velocity) (s .velocity) otherwise
     5 when not (among (m .mechanisms) (s .mechanism)) otherwise
-    6 when not (among (0 ∷ m .periods) (s .period))
+    6 when isOutside (s .period)
 
 -- and 1 to 6: 1 where the model is "neither 1 nor 2"
 unfoldable pub refusalOf : Scenario → ℕ

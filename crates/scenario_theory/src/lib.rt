@@ -16,15 +16,21 @@ pub struct Scenario {
     pub period: u16,
 }
 
-// Where a period stands in the tables of a model: it has row k, lies between rows k and k + 1, or neither.
+// Where a period that is answered stands in the tables of a model: it has row k, or lies between rows k and k + 1.
 pub enum Place {
     Row(usize),
     Between(usize),
-    Outside,
 }
 
-// What the checks 1 to 6 come to: the row of the period, or the number of the first that fails.
+// What the checks 1 to 6 come to: the place of the period, or the number of the first that fails.
 pub enum Check {
-    Accepted(usize),
+    Accepted(Place),
+    Refused(u8),
+}
+
+// The periods of the two rows that an answer rests on, the lower and the upper, equal where the period has a row of its
+// own; or the number with which the model or the period is turned away.
+pub enum RowPeriods {
+    Rows(u16, u16),
     Refused(u8),
 }

@@ -3,14 +3,14 @@ use mathlib.Core.Path.{_≡_, refl, sym, ap, _∙_}
 use mathlib.Core.Bool.{false≢true, Bool, true, false, _&&_, _||_, cond}
 use mathlib.Core.Logic.{_⊎_, inl, inr}
 use mathlib.Core.List.{List, [], _∷_, map}
-use Prim.Native.Nat.{ℕ, zero, suc, _+_, _≤_, _<_}
+use Prim.Native.Nat.{ℕ, zero, suc, _+_, _≤_, _<_, min, max}
 use native.Mathlib.Decide.{decLt}
 use native.Mathlib.Omega.{arith}
 use borrow.Author.Tests.{eq-eqb, ne-eqb, eqb-true, lt-ltb, le-ltb}
 use lib.Dec.{T, eqb, ltb, leb, leb→le, ltb→lt, eqb→eq}
-use Rattle.toolbox_theory.proofs.Tests.{and-left, and-right, by-test}
+use Rattle.toolbox_theory.proofs.Tests.{is-true, and-left, and-right, by-test}
 use lib.ListN.{length, getD, take}
-use Rattle.toolbox_theory.specs.Lists.{among, placeIn, countBelow, lookup}
+use Rattle.toolbox_theory.specs.Lists.{among, placeIn, countBelow, filter, greatest, least, lookup}
 
 -- x is none of the numbers of a list, as a match has it, after what it has before
 abbrev pub Missed : Type 0 → List ℕ → ℕ → Type 0
@@ -26,11 +26,15 @@ missed before [] x m = refl
 missed before (y ∷ ys) x m =
     rw (ne-eqb x y (earlier (before × (x ≡ y → ⊥)) ys x m .1)) (missed (before × (x ≡ y → ⊥)) ys x m)
 
-or-right : (b : Bool) {c : Bool} → c ≡ true → (b || c) ≡ true
+pub or-right : (b : Bool) {c : Bool} → c ≡ true → (b || c) ≡ true
 or-right true e = refl
 or-right false e = e
 
-or-cases : (b c : Bool) → (b || c) ≡ true → (b ≡ true) ⊎ (c ≡ true)
+pub neither : (b c : Bool) → (b || c) ≡ false → (b ≡ false) × (c ≡ false)
+neither true c e = absurd (false≢true (sym e))
+neither false c e = (refl, e)
+
+pub or-cases : (b c : Bool) → (b || c) ≡ true → (b ≡ true) ⊎ (c ≡ true)
 or-cases true c e = inl refl
 or-cases false c e = inr e
 
@@ -132,6 +136,82 @@ between-places l x n t none count h =
     let low = around l x t n (omega arith) .below (omega arith) in
     let high = around l x t (n + 1) h .above (omega arith) in
     (low, omega (arith, other))
+
+-- ---- the neighbours of x in a list that rises
+
+-- the number in a place passes what all pass
+all-place : (test : ℕ → Bool) (l : List ℕ) (i : ℕ) → i < length l → T (all test l) → T (test (getD l i 0))
+all-place test l i h t = all-at test l (getD l i 0) t (among-at l i h)
+
+none-below-is-0 : (l : List ℕ) (x : ℕ) → countBelow l x ≡ 0 → greatest (filter (λ t. ltb t x) l) ≡ 0
+unfolding countBelow filter greatest
+none-below-is-0 [] x e = refl
+none-below-is-0 (y ∷ ys) x e = elim (decLt y x) [
+  | yes p ↦ absurd (omega (arith, rw (lt-ltb y x p) at e))
+  | no p ↦
+      let q = le-ltb y x (omega arith) in
+      rw q (none-below-is-0 ys x (omega (arith, rw q at e)))
+]
+
+-- where n + 1 of them are below x, the greatest of these is in the place n
+pub greatest-below : (l : List ℕ) (x n : ℕ) → T (rising l) → n + 1 ≡ countBelow l x → n < length l →
+    greatest (filter (λ t. ltb t x) l) ≡ getD l n 0
+unfolding filter greatest
+greatest-below [] x n t e h = absurd (omega arith)
+greatest-below (y ∷ ys) x zero t e h = elim (count-of y ys x (and-left (all (ltb y) ys) (rising ys) t)) [
+  | inl p ↦ rw (lt-ltb y x (p .0)) (omega (arith, none-below-is-0 ys x (omega arith)))
+  | inr p ↦ absurd (omega arith)
+]
+greatest-below (y ∷ ys) x (suc n) t e h = elim (count-of y ys x (and-left (all (ltb y) ys) (rising ys) t)) [
+  | inl p ↦
+      let rest = greatest-below ys x n (and-right (all (ltb y) ys) (rising ys) t) (omega arith) (omega arith) in
+      let later = ltb→lt y _ (all-place (ltb y) ys n (omega arith) (and-left (all (ltb y) ys) (rising ys) t)) in
+      rw (lt-ltb y x (p .0)) (omega (arith, rest, later))
+  | inr p ↦ absurd (omega arith)
+]
+
+-- what is below all of a list is below its least, and before them the least itself
+below-least : (x y : ℕ) (ys : List ℕ) → x < y → T (all (ltb x) ys) → x < least (y ∷ ys)
+unfolding least
+below-least x y [] h t = h
+below-least x y (z ∷ zs) h t =
+    let p = below-least x z zs (ltb→lt x z (and-left (ltb x z) (all (ltb x) zs) t)) (and-right (ltb x z) (all (ltb x) zs) t) in
+    omega (arith, p)
+
+least-first : (y : ℕ) (ys : List ℕ) → T (all (ltb y) ys) → least (y ∷ ys) ≡ y
+unfolding least
+least-first y [] t = refl
+least-first y (z ∷ zs) t =
+    omega (arith, below-least y z zs (ltb→lt y z (and-left (ltb y z) (all (ltb y) zs) t)) (and-right (ltb y z) (all (ltb y) zs) t))
+
+-- all of those that pass are among all
+all-filter : (test other : ℕ → Bool) (l : List ℕ) → T (all test l) → T (all test (filter other l))
+unfolding filter
+all-filter test other [] t = tt
+all-filter test other (y ∷ ys) t =
+    let rest = all-filter test other ys (and-right (test y) (all test ys) t) in
+    by-test (other y) (λ zs. T (all test zs)) (λ _. rw (is-true (test y) (and-left (test y) (all test ys) t)) rest)
+    (λ _. rest)
+
+-- and where x is none of them, and n are below it, the least above it is in the place n
+pub least-above : (l : List ℕ) (x n : ℕ) → T (rising l) → among l x ≡ false → n ≡ countBelow l x → n < length l →
+    least (filter (λ t. ltb x t) l) ≡ getD l n 0
+unfolding filter
+least-above [] x n t none e h = absurd (omega arith)
+least-above (y ∷ ys) x zero t none e h = elim (count-of y ys x (and-left (all (ltb y) ys) (rising ys) t)) [
+  | inl p ↦ absurd (omega arith)
+  | inr p ↦
+      let later = and-left (all (ltb y) ys) (rising ys) t in
+      let other : x ≡ y → ⊥ = λ q. false≢true (sym (neither (eqb x y) (among ys x) none .0) ∙ eq-eqb x y q) in
+      rw (lt-ltb x y (omega (arith, p .0, other))) (least-first y _ (all-filter (ltb y) (λ t. ltb x t) ys later))
+]
+least-above (y ∷ ys) x (suc n) t none e h = elim (count-of y ys x (and-left (all (ltb y) ys) (rising ys) t)) [
+  | inl p ↦
+      let other = neither (eqb x y) (among ys x) none .1 in
+      let rest = least-above ys x n (and-right (all (ltb y) ys) (rising ys) t) other (omega arith) (omega arith) in
+      rw (le-ltb x y (omega arith)) rest
+  | inr p ↦ absurd (omega arith)
+]
 
 -- the row that has a key is the row in the key's place
 module _ {A : Type 0} (key : A → ℕ) (none : A) where

@@ -66,6 +66,9 @@ mul-is (negsuc a) (negsuc b) = omega arith
 pub ≤ℤ-in : {a b : ℤ} → up a + down b ≤ up b + down a → a ≤ℤ b
 ≤ℤ-in {a} {b} h = record { le = le-in a b h }
 
+pub ≤ℤ-trans : {a c : ℤ} (b : ℤ) → a ≤ℤ b → b ≤ℤ c → a ≤ℤ c
+≤ℤ-trans {a} {c} b h k = ≤ℤ-in (omega (arith, le-out a b (h .le), le-out b c (k .le)))
+
 pub whole-ext : (a b : ℤ) → up a + down b ≡ up b + down a → a ≡ b
 unfolding up down
 whole-ext (pos a) (pos b) e = ap pos (omega arith)

@@ -3,15 +3,15 @@ use mathlib.Core.Path.{sym, _∙_}
 use borrow.Author.Needs.{needs}
 use Rattle.scenario_theory.proofs.RowLaws.{passed}
 use Rattle.engine_theory.specs.Evaluation.{answerOf}
-use Rattle.engine_theory.proofs.Laws.{sound, fields-refused, fields-enclosed, enclosed-in-doubles, refused-in-doubles}
-use Rattle.engine_theory.proofs.Laws.{doubles-answers}
+use Rattle.engine_theory.proofs.Laws.{fields-refused, fields-enclosed, enclosed-in-doubles, refused-in-doubles, doubles-answers}
+use Rattle.engine_theory.proofs.ModelLaws.{sound}
 use Rattle.engine.proofs.answer_fields_in_doubles.Statement.{statement}
 use Rattle.engine.proofs.answer_fields_in_doubles.Tie as tie
 
 small : tie.Need-as-doubles-requires
 small c κs =
     let g = c .before .before in
-    let p = passed _ (sym (g .before .before .check .ensures) ∙ g .row .given .1) in
+    let p = passed _ (sym (g .before .before .check .ensures) ∙ g .place .given .1) in
     rw (c .by-model .ensures) (sound _ (p .accepted) .small)
 
 pub answer-fields-in-doubles-spec : {M : Type 1} → statement M
@@ -20,10 +20,10 @@ answer-fields-in-doubles-spec =
     tie.close
     (tie.spec
     (λ c κs. search needs) (λ c. search needs)
-    (λ c κs. passed _ (sym (c .before .before .before .check .ensures) ∙ c .before .row .given .1))
+    (λ c κs. passed _ (sym (c .before .before .before .check .ensures) ∙ c .before .place .given .1))
     small (λ c. search needs)
     (λ c. let g = c .before .before .before in
-    let checked = sym (g .before .before .check .ensures) ∙ g .row .given .1 in
+    let checked = sym (g .before .before .check .ensures) ∙ g .place .given .1 in
     doubles-answers _ _ (λ e. e)
     (enclosed-in-doubles (c .as-doubles .ensures) (fields-enclosed _ checked (c .before .by-model .ensures))))
     (λ c. doubles-answers _ _ (λ e. e)

@@ -1,7 +1,7 @@
 -- `answer_next` meets its contract.
 use mathlib.Core.Path.{sym, _∙_}
 use borrow.Author.Needs.{needs}
-use Rattle.record_theory.proofs.ReadingLaws.{row-read}
+use Rattle.record_theory.proofs.ReadingLaws.{placed-read}
 use Rattle.engine_theory.proofs.RecordLaws.{next-enclosed, next-refused, next-promised}
 use Rattle.engine.proofs.answer_next.Statement.{statement}
 use Rattle.engine.proofs.answer_next.Tie as tie
@@ -11,10 +11,10 @@ answer-next-spec =
     tie.close
     (tie.spec
     (λ c κs. search needs) (λ c. search needs)
-    (λ c κs. row-read _ (sym (c .before .before .before .read-with-row .ensures .0) ∙ c .before .s .given .1) .looked)
+    (λ c κs. placed-read _ (sym (c .before .before .before .read-with-place .ensures .0) ∙ c .before .s .given .1) .looked)
     (λ c. search needs)
     (λ c. let g = c .before .before in
-    let read = sym (g .before .before .read-with-row .ensures .0) ∙ g .s .given .1 in
+    let read = sym (g .before .before .read-with-place .ensures .0) ∙ g .s .given .1 in
     next-promised _ (next-enclosed _ read (c .by-model .ensures)))
     (λ c. next-promised _
-    (next-refused _ (sym (c .before .before .before .read-with-row .ensures .0) ∙ c .before .k .given .1))))
+    (next-refused _ (sym (c .before .before .before .read-with-place .ensures .0) ∙ c .before .k .given .1))))

@@ -1,8 +1,8 @@
 -- `boore_atkinson_check` meets its contract.
-use mathlib.Core.Path.{_≡_, refl, _∙_}
+use mathlib.Core.Path.{_≡_, _∙_}
 use borrow.Author.Needs.{needs}
 use Rattle.scenario_theory.specs.Refusal.{booreAtkinson}
-use Rattle.scenario_theory.proofs.RowLaws.{boore-atkinson-placed, numberBefore, earlier-check, last-check}
+use Rattle.scenario_theory.proofs.RowLaws.{numberBefore, earlier-check, boore-atkinson-last}
 use Rattle.scenario.proofs.boore_atkinson_check.Statement.{statement}
 use Rattle.scenario.proofs.boore_atkinson_check.Tie as tie
 
@@ -19,9 +19,6 @@ boore-atkinson-check-spec =
     tie.close
     (tie.spec
     (λ c κs. search needs) (λ c κs. search needs) (λ c κs. search needs) (λ c κs. search needs) (λ c κs. search needs)
-    (λ c. earlier-check booreAtkinson _ _ (boore-atkinson-placed _ refl) (first-is (c .before)) (c .if1 .taken))
-    (λ c κs. search needs) (λ c κs. search needs)
-    (λ c.
-    let k = c .before .before in
-    last-check booreAtkinson _ _ (boore-atkinson-placed _ (c .before .boore-atkinson-place .ensures))
-    (first-is (k .before)) (k .if1 .left) (c .last .ensures)))
+    (λ c. earlier-check booreAtkinson _ _ (first-is (c .before)) (c .if1 .taken))
+    (λ c κs. search needs)
+    (λ c. boore-atkinson-last _ (first-is (c .before .before)) (c .before .if1 .left) (c .boore-atkinson-place .ensures)))

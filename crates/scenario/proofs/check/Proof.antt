@@ -3,12 +3,12 @@ use mathlib.Core.Path.{refl}
 use borrow.Author.Needs.{needs}
 use borrow.Author.Tests.{ne-eqb}
 use Rattle.scenario_theory.specs.Refusal.{refusalBy, refusalOf}
-use Rattle.scenario_theory.specs.Rows.{checkBy, checkOf}
+use Rattle.scenario_theory.specs.Rows.{checkBy, placeOf, checkOf}
 use Rattle.scenario.proofs.check.Statement.{statement}
 use Rattle.scenario.proofs.check.Tie as tie
 
 pub check-spec : {M : Type 1} → statement M
-unfolding checkOf checkBy refusalOf refusalBy
+unfolding checkOf checkBy placeOf refusalOf refusalBy
 check-spec =
     tie.close
     (tie.spec

@@ -1,8 +1,8 @@
 -- `idriss_check` meets its contract.
-use mathlib.Core.Path.{_≡_, refl, _∙_}
+use mathlib.Core.Path.{_≡_, _∙_}
 use borrow.Author.Needs.{needs}
 use Rattle.scenario_theory.specs.Refusal.{idriss}
-use Rattle.scenario_theory.proofs.RowLaws.{idriss-placed, numberBefore, earlier-check, last-check}
+use Rattle.scenario_theory.proofs.RowLaws.{numberBefore, earlier-check, idriss-last}
 use Rattle.scenario.proofs.idriss_check.Statement.{statement}
 use Rattle.scenario.proofs.idriss_check.Tie as tie
 
@@ -19,9 +19,6 @@ idriss-check-spec =
     tie.close
     (tie.spec
     (λ c κs. search needs) (λ c κs. search needs) (λ c κs. search needs) (λ c κs. search needs) (λ c κs. search needs)
-    (λ c. earlier-check idriss _ _ (idriss-placed _ refl) (first-is (c .before)) (c .if1 .taken))
-    (λ c κs. search needs) (λ c κs. search needs)
-    (λ c.
-    let k = c .before .before in
-    last-check idriss _ _ (idriss-placed _ (c .before .idriss-place .ensures))
-    (first-is (k .before)) (k .if1 .left) (c .last .ensures)))
+    (λ c. earlier-check idriss _ _ (first-is (c .before)) (c .if1 .taken))
+    (λ c κs. search needs)
+    (λ c. idriss-last _ (first-is (c .before .before)) (c .before .if1 .left) (c .idriss-place .ensures)))

@@ -2,8 +2,8 @@
 use borrow.Author.Needs.{needs}
 use Rattle.toolbox_theory.specs.Lists.{countBelow}
 use Rattle.scenario_theory.specs.Refusal.{booreAtkinson}
-use Rattle.scenario_theory.specs.Rows.{placeAmong, booreAtkinsonPlace}
-use Rattle.scenario_theory.proofs.RowLaws.{untabled}
+use Rattle.scenario_theory.specs.Rows.{booreAtkinsonRow, placeAmong, booreAtkinsonPlace}
+use Rattle.scenario_theory.proofs.RowLaws.{in-no-row}
 use Rattle.scenario_rows.proofs.boore_atkinson_place.Statement.{statement}
 use Rattle.scenario_rows.proofs.boore_atkinson_place.Tie as tie
 
@@ -21,5 +21,5 @@ boore-atkinson-place-spec =
     (λ c. rw (c .match .keys21)) (λ c. rw (c .match .keys22))
     (λ c.
     let a = c .before .before in
-    untabled 1 (booreAtkinson .periods) (a .before .args .period) (a .match .rest)
+    in-no-row 1 booreAtkinson booreAtkinsonRow (a .before .args .period) (a .match .rest)
     (c .before .count-below-without-40 .ensures .0) (c .after .ensures)))

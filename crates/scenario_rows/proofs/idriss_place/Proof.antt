@@ -2,8 +2,8 @@
 use borrow.Author.Needs.{needs}
 use Rattle.toolbox_theory.specs.Lists.{countBelow}
 use Rattle.scenario_theory.specs.Refusal.{idriss}
-use Rattle.scenario_theory.specs.Rows.{placeAmong, idrissPlace}
-use Rattle.scenario_theory.proofs.RowLaws.{untabled}
+use Rattle.scenario_theory.specs.Rows.{idrissRow, placeAmong, idrissPlace}
+use Rattle.scenario_theory.proofs.RowLaws.{in-no-row}
 use Rattle.scenario_rows.proofs.idriss_place.Statement.{statement}
 use Rattle.scenario_rows.proofs.idriss_place.Tie as tie
 
@@ -21,5 +21,5 @@ idriss-place-spec =
     (λ c. rw (c .match .keys21)) (λ c. rw (c .match .keys22)) (λ c. rw (c .match .keys23))
     (λ c.
     let a = c .before .before in
-    untabled 0 (idriss .periods) (a .before .args .period) (a .match .rest) (c .before .count-below .ensures .0)
+    in-no-row 0 idriss idrissRow (a .before .args .period) (a .match .rest) (c .before .count-below .ensures .0)
     (c .after .ensures)))

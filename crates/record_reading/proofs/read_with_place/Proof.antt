@@ -1,20 +1,20 @@
--- `read_with_row` meets its contract.
+-- `read_with_place` meets its contract.
 use mathlib.Core.Path.{_≡_, sym, _∙_}
 use native.Mathlib.Omega.{arith}
 use borrow.Author.Needs.{needs}
-use Rattle.record_theory.specs.declared.RowReading.{RowReading}
+use Rattle.record_theory.specs.declared.PlacedReading.{PlacedReading}
 use Rattle.record_theory.specs.Layout.{Bytes}
 use Rattle.record_theory.specs.Outcome.{mapIn, scenarioIn, ReadPromise}
-use Rattle.record_theory.specs.Steps.{frontRefusal, fieldCheck, rowReadingOf, rowless}
+use Rattle.record_theory.specs.Steps.{frontRefusal, fieldCheck, placedReadingOf, placeless}
 use Rattle.record_theory.proofs.FieldLaws.{length-is}
 use Rattle.record_theory.proofs.ReadingLaws.{front-passes, refused-front, refused-fields, is-read, read-of}
-use Rattle.record_reading.proofs.read_with_row.Statement.{statement}
-use Rattle.record_reading.proofs.read_with_row.Tie as tie
+use Rattle.record_reading.proofs.read_with_place.Statement.{statement}
+use Rattle.record_reading.proofs.read_with_place.Tie as tie
 
 -- the promise is that of the reading; the elements of a slice of u8 are bytes
-promised : (c : tie.After-shared-slice-known) {r : RowReading} →
+promised : (c : tie.After-shared-slice-known) {r : PlacedReading} →
     let s = c .before .args .s .now in
-    r ≡ rowReadingOf s → (r ≡ rowReadingOf s) × (ReadPromise s (rowless r) × Bytes s)
+    r ≡ placedReadingOf s → (r ≡ placedReadingOf s) × (ReadPromise s (placeless r) × Bytes s)
 promised c e = (e, (read-of _ (sym e) .1, λ i. omega (arith, c .shared-slice-known .given i)))
 
 -- the checks of the front pass
@@ -42,8 +42,8 @@ fields-refused c =
     let e = k .before .before .before in
     promised (e .before .before) (refused-fields _ (front e) (checked k ∙ told .c2 .given .1))
 
-pub read-with-row-spec : {M : Type 1} → statement M
-read-with-row-spec =
+pub read-with-place-spec : {M : Type 1} → statement M
+read-with-place-spec =
     tie.close
     (tie.spec
     (λ c κs. search needs)

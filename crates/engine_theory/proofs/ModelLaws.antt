@@ -1,0 +1,175 @@
+-- The ends of an accepted scenario enclose what its model gives: by a row, and between two rows (W-201).
+use mathlib.Core.Path.{_≡_, refl}
+use mathlib.Core.Bool.{Bool, true, false, cond}
+use mathlib.Core.Logic.{⊎-elim}
+use Prim.Native.Nat.{ℕ, _*_, _^_, _≤_}
+use native.Mathlib.Omega.{arith}
+use lib.IntN.{ℤ, pos, _+ℤ_}
+use lib.Signed.{_≤ℤ_}
+use Rattle.toolbox_theory.specs.Whole.{up, down}
+use Rattle.toolbox_theory.proofs.Tests.{by-test}
+use Rattle.toolbox_theory.proofs.Whole.{≤ℤ-in, add-is, within-more}
+use Rattle.exact_theory.specs.Formula.{Formula, ends, Encloses}
+use Rattle.interval_theory.specs.declared.SignedEnds.{SignedEnds}
+use Rattle.interval_theory.specs.Signed.{SmallerThan}
+use Rattle.interpolation_theory.specs.declared.Step.{Step}
+use Rattle.interpolation_theory.specs.Between.{between}
+use Rattle.interpolation_theory.specs.Steps.{stepOf}
+use Rattle.interpolation_theory.specs.Promise.{BetweenEnds}
+use Rattle.scenario_theory.specs.declared.Scenario.{Scenario}
+use Rattle.scenario_theory.specs.Refusal.{Limits, idriss, booreAtkinson, refusalOf}
+use Rattle.scenario_theory.specs.Neighbours.{isTabled, neighbourBelow, neighbourAbove}
+use Rattle.scenario_theory.proofs.RefusalLaws.{Within, of-model}
+use Rattle.scenario_theory.proofs.RowLaws.{idriss-row, boore-atkinson-row}
+use Rattle.idriss_theory.specs.Tables.{table2, table3, takesTable3}
+use Rattle.idriss_theory.specs.Sigma.{sigma as idrissSigma}
+use Rattle.idriss_theory.specs.Evaluation.{sigmaOf as idrissSigmaOf}
+use Rattle.idriss_theory.specs.Promise as idrissPromise
+use Rattle.idriss_theory.proofs.Rows.{row-at as idriss-row-at}
+use Rattle.idriss_theory.proofs.Accepted.{median-domain as idriss-median-domain}
+use Rattle.idriss_theory.proofs.Laws.{medianOf-promise as idriss-median-promise}
+use Rattle.idriss_theory.proofs.Between.{medianBetweenOf-promise as idriss-between-promise}
+use Rattle.idriss_theory.proofs.SigmaLaws.{sigmaOf-promise as idriss-sigma-promise}
+use Rattle.boore_atkinson_theory.specs.Promise as booreAtkinsonPromise
+use Rattle.boore_atkinson_theory.proofs.Rows.{row-at, total-at}
+use Rattle.boore_atkinson_theory.proofs.Accepted.{median-domain as boore-atkinson-median-domain}
+use Rattle.boore_atkinson_theory.proofs.Laws.{medianOf-promise as boore-atkinson-median-promise}
+use Rattle.boore_atkinson_theory.proofs.Laws.{sigmaOf-promise as boore-atkinson-sigma-promise}
+use Rattle.boore_atkinson_theory.proofs.Between.{medianBetweenOf-promise, sigmaBetweenOf-promise}
+use Rattle.engine_theory.specs.declared.Enclosure.{Enclosure}
+use Rattle.engine_theory.specs.Models.{atPeriod, idrissMedianBy, median, sigma, idrissWidth, booreAtkinsonWidth}
+use Rattle.engine_theory.specs.Models.{widthAt, medianWidth, idrissSigmaWidth, sigmaBetweenWidth, sigmaWidth}
+use Rattle.engine_theory.specs.Models.{booreAtkinsonMedianBy, booreAtkinsonSigmaBy}
+use Rattle.engine_theory.specs.Promise.{EnclosedWithin}
+use Rattle.engine_theory.specs.Evaluation.{atPeriodOf, idrissMedianEnds, booreAtkinsonMedianEnds}
+use Rattle.engine_theory.specs.Evaluation.{booreAtkinsonSigmaEnds, enclosureOf, SmallEnclosure}
+use Rattle.engine_theory.proofs.RowLaws.{in-idriss, in-boore-atkinson}
+
+-- two ends enclose f, at most w units apart, and a double equals each
+pub record Ends (w : ℕ) (f : Formula) (e : SignedEnds) : Type 0 where
+  pub enclosed : EnclosedWithin w f (e .low) (e .high)
+  pub small : SmallerThan (2 ^ 53) e
+
+-- ends that are at most v units apart are at most w
+ends-of : {f : Formula} (e : SignedEnds) (v w : ℕ) → v ≤ w → Encloses (ends (e .low) (e .high)) f →
+    e .high ≤ℤ (e .low +ℤ pos v) → SmallerThan (2 ^ 53) e → Ends w f e
+ends-of e v w more h narrow small = record {
+  enclosed = record { encloses = h; narrow = within-more _ (e .low) v w more narrow };
+  small = small;
+}
+
+between-ends : {f : Formula} {v l h : ℕ} {e : SignedEnds} (w : ℕ) → v ≤ w → BetweenEnds f v l h e → Ends w f e
+between-ends {v = v} {e = e} w more b = ends-of e v w more (b .encloses) (b .narrow) (b .small)
+
+-- equal ends are no units apart
+no-units : {y : ℤ} (z : ℤ) → y ≡ z → y ≤ℤ (z +ℤ pos 0)
+unfolding up down
+no-units z e = rw e (≤ℤ-in (omega (arith, add-is z (pos 0))))
+
+-- what is computed at a period encloses what the model gives there, as each of its two cases does
+by-tabled : (b : Bool) {w v : ℕ} {f g : Formula} {d e : SignedEnds} → (b ≡ true → Ends w f d) →
+    (b ≡ false → Ends v g e) → Ends (cond b w v) (cond b f g) (cond b d e)
+by-tabled true tabled other = tabled refl
+by-tabled false tabled other = other refl
+
+-- ---- each model's
+
+module _ (s : Scenario) where
+  abbrev T : ℕ
+  T = s .period
+
+  module _ (w : Within idriss s) where
+    -- by either table
+    idriss-median : (isTable3 : Bool) →
+        let table = cond isTable3 table3 table2 in
+        Ends (widthAt idriss T idrissWidth) (idrissMedianBy table s) (idrissMedianEnds table s)
+    idriss-median isTable3 =
+        by-tabled (isTabled idriss T)
+        (λ e.
+        let d = idriss-median-domain s (idriss-row T e) w in
+        let m = rw (← idriss-row-at isTable3 T) at (idriss-median-promise isTable3 (s .mechanism) d) in
+        ends-of _ idrissPromise.medianWidth idrissWidth (omega arith) (m .encloses) (m .narrow) (m .small))
+        (λ e.
+        let b = in-idriss T e (w .period) in
+        let d = idriss-median-domain s (b .last) w in
+        let m =
+        rw (
+          ← b .rows .next,
+          ← idriss-row-at isTable3 (neighbourBelow idriss T),
+          ← idriss-row-at isTable3 (neighbourAbove idriss T),
+        ) at
+        (idriss-between-promise isTable3 (s .mechanism) d (b .step)) in
+        between-ends (2 * idrissWidth) (omega arith) m)
+
+    idriss-sigma : Ends (cond (isTabled idriss T) idrissSigmaWidth sigmaBetweenWidth) (idrissSigma T (s .magnitude))
+        (idrissSigmaOf T (s .magnitude))
+    idriss-sigma =
+        let g = idriss-sigma-promise T (s .magnitude) in
+        let width : idrissPromise.sigmaWidth ≤ cond (isTabled idriss T) idrissSigmaWidth sigmaBetweenWidth =
+        by-test (isTabled idriss T) (λ w. idrissPromise.sigmaWidth ≤ w) (λ _. omega arith) (λ _. omega arith) in
+        ends-of _ idrissPromise.sigmaWidth _ width (g .encloses) (g .narrow) (g .small)
+
+  module _ (w : Within booreAtkinson s) where
+    boore-atkinson-median : Ends (widthAt booreAtkinson T booreAtkinsonWidth) (booreAtkinsonMedianBy s)
+        (booreAtkinsonMedianEnds s)
+    boore-atkinson-median =
+        by-tabled (isTabled booreAtkinson T)
+        (λ e.
+        let d = boore-atkinson-median-domain s (boore-atkinson-row T e) w in
+        let m = rw (← row-at T) at (boore-atkinson-median-promise (s .mechanism) d) in
+        ends-of _ booreAtkinsonPromise.medianWidth booreAtkinsonWidth (omega arith) (m .encloses) (m .narrow) (m .small))
+        (λ e.
+        let b = in-boore-atkinson T e (w .period) in
+        let d = boore-atkinson-median-domain s (b .last) w in
+        let m =
+        rw (← b .rows .next, ← row-at (neighbourBelow booreAtkinson T), ← row-at (neighbourAbove booreAtkinson T)) at
+        (medianBetweenOf-promise (s .mechanism) (b .first) d (b .step)) in
+        between-ends (2 * booreAtkinsonWidth) (omega arith) m)
+
+    boore-atkinson-sigma : Ends (cond (isTabled booreAtkinson T) 0 sigmaBetweenWidth) (booreAtkinsonSigmaBy s)
+        (booreAtkinsonSigmaEnds s)
+    boore-atkinson-sigma =
+        by-tabled (isTabled booreAtkinson T)
+        (λ e.
+        let g = rw (← total-at T) at (boore-atkinson-sigma-promise _ (s .mechanism) (boore-atkinson-row T e)) in
+        ends-of _ 0 0 (omega arith) (g .encloses) (no-units _ (g .equal)) (g .small))
+        (λ e.
+        let b = in-boore-atkinson T e (w .period) in
+        let g =
+        rw (← b .rows .next, ← total-at (neighbourBelow booreAtkinson T), ← total-at (neighbourAbove booreAtkinson T)) at
+        (sigmaBetweenOf-promise (s .mechanism) (b .first) (b .last) (b .step)) in
+        between-ends sigmaBetweenWidth (omega arith) g)
+
+-- ---- the four ends of an accepted scenario
+
+-- they enclose what the model gives, and a double equals each
+pub record Sound (s : Scenario) (e : Enclosure) : Type 0 where
+  pub median-enclosed : EnclosedWithin (medianWidth s) (median s) (e .median .low) (e .median .high)
+  pub sigma-enclosed : EnclosedWithin (sigmaWidth s) (sigma s) (e .sigma .low) (e .sigma .high)
+  pub small : SmallEnclosure e
+
+module _ (s : Scenario) where
+  idriss-sound : (s .model ≡ 1) × Within idriss s → Sound s (enclosureOf s)
+  unfolding enclosureOf median sigma medianWidth sigmaWidth
+  idriss-sound (model, w) =
+      let m = idriss-median s w (takesTable3 (s .magnitude)) in
+      let g = idriss-sigma s w in
+      rw model (record {
+        median-enclosed = m .enclosed;
+        sigma-enclosed = g .enclosed;
+        small = record { median = m .small; sigma = g .small };
+      })
+
+  boore-atkinson-sound : (s .model ≡ 2) × Within booreAtkinson s → Sound s (enclosureOf s)
+  unfolding enclosureOf median sigma medianWidth sigmaWidth
+  boore-atkinson-sound (model, w) =
+      let m = boore-atkinson-median s w in
+      let g = boore-atkinson-sigma s w in
+      rw model (record {
+        median-enclosed = m .enclosed;
+        sigma-enclosed = g .enclosed;
+        small = record { median = m .small; sigma = g .small };
+      })
+
+  pub sound : refusalOf s ≡ 0 → Sound s (enclosureOf s)
+  sound accepted = ⊎-elim idriss-sound boore-atkinson-sound (of-model s accepted)

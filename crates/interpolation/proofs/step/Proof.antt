@@ -1,0 +1,11 @@
+-- `step` meets its contract.
+use mathlib.Core.Path.{refl}
+use borrow.Author.Needs.{needs}
+use Rattle.interpolation.proofs.step.Statement.{statement}
+use Rattle.interpolation.proofs.step.Tie as tie
+
+pub step-spec : {M : Type 1} → statement M
+step-spec =
+    tie.close
+    (tie.spec (λ c κs. search needs) (λ c κs. search needs)
+    (λ c. rw (c .ln2 .ensures .0, c .before .ln .ensures .0) refl))

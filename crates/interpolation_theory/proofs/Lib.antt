@@ -1,0 +1,5 @@
+pub mod Values
+pub mod Bounds
+pub mod Domains
+pub mod Laws
+pub mod StepLaws

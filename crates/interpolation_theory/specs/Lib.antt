@@ -1,0 +1,4 @@
+pub mod Between
+pub mod Evaluation
+pub mod Steps
+pub mod Promise
