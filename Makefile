@@ -85,7 +85,7 @@ lib: need
 	$(ALONE) rt staticlib host > target/tests/host.log 2>&1 || { cat target/tests/host.log; exit 1; }
 	cp target/staticlib/libhost.a $(LIB)/libfusnoch.a
 	$(CC) -shared -o $(LIB)/libfusnoch.so -Wl,--whole-archive $(LIB)/libfusnoch.a -Wl,--no-whole-archive
-	tools/header crates/host/src/lib.rt crates/engine_theory/src/lib.rt > $(LIB)/fusnoch.h
+	tools/header crates/host/src/lib.rt crates/host_theory/src/lib.rt crates/engine_theory/src/lib.rt > $(LIB)/fusnoch.h
 
 # The hosts' programs; cargo finds its settings from the directory it runs in.
 hosts: need_hosts lib

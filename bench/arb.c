@@ -1,6 +1,7 @@
 /* The peer in Arb: both models over balls of 64 bits, which enclose the value as our engine's ends do.
    Coefficients and constants become balls once, and all balls that an answer needs are made once.  The parts that can
-   be done term by term or tuned are in arb_terms.c and arb_tuned.c; all the rest is here. */
+   be done term by term or tuned are in arb_terms.c and arb_tuned.c; all the rest is here.  What answers at rows share
+   with those between rows is inline, so that it costs the former no calls. */
 
 #include "arb_shared.h"
 
@@ -35,6 +36,16 @@ arb_struct boore_atkinson_balls[ROWS][BOORE_ATKINSON_COLUMNS];
 static arb_struct sigma_of_period[ROWS];
 static arb_t sigma_of_magnitude;
 
+/* The same between rows, from ln T of thousandths of a second: 1.18 - 0.035 ln 1000, and 0.035. */
+static arb_t sigma_constant, sigma_of_ln_period;
+
+/* From a row to the next: ln T1, of thousandths of a second, and 1 / ln(T2/T1). */
+typedef struct {
+    arb_t ln_lower, to_upper;
+} interval;
+
+static interval idriss_intervals[ROWS - 1], boore_atkinson_intervals[ROWS - 1];
+
 arb_t ln_10, ln_100, ln_10000, ln_0_03, ln_0_09;
 static arb_t ln_3000, ln_7600, ln_0_1, ln_0_6;
 /* 1 / ln(180/300), 1 / ln(300/760), and c and d of the nonlinear part over the slope */
@@ -42,6 +53,8 @@ static arb_t to_180, to_300, c_over_slope, d_over_slope;
 
 /* Balls that are written anew for each answer. */
 static arb_t ln_v, ln_v_over_760, factor, rock, rock_acceleration, bnl, nonlinear, z, branch;
+/* Those that only answers between rows need. */
+static arb_t ln_period, weight, difference, upper_median, upper_bnl;
 
 /* x becomes ln(a/b). */
 static void set_ln(arb_t x, ulong a, ulong b)
@@ -94,8 +107,26 @@ static void ready_sigma(void)
     }
     arb_init(sigma_of_magnitude);
     set_decimal(sigma_of_magnitude, "0.06", 100);
+    arb_init(sigma_of_ln_period);
+    arb_set(sigma_of_ln_period, scale);
+    arb_init(sigma_constant);
+    set_ln(sigma_constant, 1, 1000);
+    arb_mul(sigma_constant, sigma_constant, scale, BITS);
+    arb_add(sigma_constant, sigma_constant, constant, BITS);
     arb_clear(scale);
     arb_clear(constant);
+}
+
+/* The row PGA is no neighbour of any period. */
+static void ready_intervals(interval *intervals, const uint16_t *periods)
+{
+    for (int row = periods[0] == 0 ? 1 : 0; row + 1 < ROWS; row++) {
+        arb_init(intervals[row].ln_lower);
+        arb_init(intervals[row].to_upper);
+        set_ln(intervals[row].ln_lower, periods[row], 1);
+        set_ln(intervals[row].to_upper, periods[row + 1], periods[row]);
+        arb_inv(intervals[row].to_upper, intervals[row].to_upper, BITS);
+    }
 }
 
 /* c and d over the slope: (3 y - x)/x^2 and (x - 2 y)/x^3 with x = ln 3 and y = ln 1.5. */
@@ -139,12 +170,14 @@ static void ready_constants(void)
 void ready_arb(void)
 {
     arb_ptr balls[] = {ln_v, ln_v_over_760, factor, rock, rock_acceleration, bnl, nonlinear, z, branch, c_over_slope,
-                       d_over_slope};
+                       d_over_slope, ln_period, weight, difference, upper_median, upper_bnl};
 
     for (size_t i = 0; i < sizeof balls / sizeof *balls; i++)
         arb_init(balls[i]);
     ready_tables();
     ready_sigma();
+    ready_intervals(idriss_intervals, IDRISS_PERIODS);
+    ready_intervals(boore_atkinson_intervals, BOORE_ATKINSON_PERIODS);
     ready_transition();
     ready_constants();
     TERM_BY_TERM.ready();
@@ -160,6 +193,30 @@ static size_t row_of(const uint16_t *periods, uint16_t period)
     return row;
 }
 
+/* The row before a period that lies between two. */
+static size_t row_before(const uint16_t *periods, uint16_t period)
+{
+    size_t row = 0;
+    while (periods[row + 1] < period)
+        row++;
+    return row;
+}
+
+/* The weight becomes how far the period is from the row before it to the next, 0 to 1. */
+static void weigh(const interval *i, uint16_t period)
+{
+    arb_log_ui(ln_period, period, BITS);
+    arb_sub(weight, ln_period, i->ln_lower, BITS);
+    arb_mul(weight, weight, i->to_upper, BITS);
+}
+
+/* The value of the row before becomes the one between it and that of the next, by the weight. */
+static void go_between(arb_t value, const arb_t next)
+{
+    arb_sub(difference, next, value, BITS);
+    arb_addmul(value, difference, weight, BITS);
+}
+
 static void idriss(const arb_way *way, arb_t median, arb_t sigma, fusnoch_scenario s)
 {
     size_t row = s.period == 0 ? 0 : row_of(IDRISS_PERIODS, s.period);
@@ -169,27 +226,46 @@ static void idriss(const arb_way *way, arb_t median, arb_t sigma, fusnoch_scenar
     arb_submul_ui(sigma, sigma_of_magnitude, s.magnitude < 500 ? 500 : s.magnitude > 750 ? 750 : s.magnitude, BITS);
 }
 
-/* The slope bnl of the site term, from the logarithms of the velocity. */
-static void slope(arb_srcptr at, uint16_t velocity)
+static void idriss_between(const arb_way *way, arb_t median, arb_t sigma, fusnoch_scenario s)
+{
+    size_t row = row_before(IDRISS_PERIODS, s.period);
+    int table = s.magnitude > 675;
+
+    weigh(&idriss_intervals[row], s.period);
+    way->idriss_median(median, idriss_balls[table][row], s);
+    way->idriss_again(upper_median, idriss_balls[table][row + 1], s);
+    go_between(median, upper_median);
+    /* Where T is held, sigma is that of the row. */
+    if (s.period < 50 || s.period > 3000) {
+        arb_set(sigma, &sigma_of_period[row]);
+    } else {
+        arb_set(sigma, sigma_constant);
+        arb_addmul(sigma, sigma_of_ln_period, ln_period, BITS);
+    }
+    arb_submul_ui(sigma, sigma_of_magnitude, s.magnitude < 500 ? 500 : s.magnitude > 750 ? 750 : s.magnitude, BITS);
+}
+
+/* x becomes the slope bnl of the site term, from the logarithms of the velocity. */
+static inline void slope(arb_t x, arb_srcptr at, uint16_t velocity)
 {
     if (velocity <= 1800) {
-        arb_set(bnl, &at[B1_SITE]);
+        arb_set(x, &at[B1_SITE]);
     } else if (velocity <= 3000) {
-        arb_sub(bnl, ln_v, ln_3000, BITS);
-        arb_mul(bnl, bnl, to_180, BITS);
+        arb_sub(x, ln_v, ln_3000, BITS);
+        arb_mul(x, x, to_180, BITS);
         arb_sub(factor, &at[B1_SITE], &at[B2_SITE], BITS);
-        arb_mul(bnl, bnl, factor, BITS);
-        arb_add(bnl, bnl, &at[B2_SITE], BITS);
+        arb_mul(x, x, factor, BITS);
+        arb_add(x, x, &at[B2_SITE], BITS);
     } else if (velocity < 7600) {
-        arb_mul(bnl, ln_v_over_760, to_300, BITS);
-        arb_mul(bnl, bnl, &at[B2_SITE], BITS);
+        arb_mul(x, ln_v_over_760, to_300, BITS);
+        arb_mul(x, x, &at[B2_SITE], BITS);
     } else {
-        arb_zero(bnl);
+        arb_zero(x);
     }
 }
 
 /* The nonlinear part over the slope between the thresholds, with z = p - ln 0.03. */
-static void transition(arb_t sum)
+static inline void transition(arb_t sum)
 {
     arb_set(sum, c_over_slope);
     arb_addmul(sum, d_over_slope, z, BITS);
@@ -199,7 +275,7 @@ static void transition(arb_t sum)
 }
 
 /* The nonlinear part over the slope: the one branch that p reaches, or the union of those that it may reach. */
-static void nonlinear_over_slope(const arb_way *way, const arb_t p)
+static inline void nonlinear_over_slope(const arb_way *way, const arb_t p)
 {
     int reached = way->branches(z, p), joined = 0;
 
@@ -228,7 +304,7 @@ static void boore_atkinson(const arb_way *way, arb_t median, arb_t sigma, fusnoc
     arb_log_ui(ln_v, s.velocity, BITS);
     arb_sub(ln_v_over_760, ln_v, ln_7600, BITS);
     way->on_rock(rock, row, s);
-    slope(at, s.velocity);
+    slope(bnl, at, s.velocity);
 
     arb_mul(median, &at[BLIN], ln_v_over_760, BITS);
     arb_add(median, median, rock, BITS);
@@ -242,12 +318,51 @@ static void boore_atkinson(const arb_way *way, arb_t median, arb_t sigma, fusnoc
     arb_set(sigma, &at[s.mechanism == 9 ? UNSPECIFIED : SPECIFIED]);
 }
 
+/* The distance term, the magnitude term and the linear part of a row. */
+static void on_linear_ground(const arb_way *way, arb_t sum, size_t row, fusnoch_scenario s)
+{
+    way->on_rock(rock, row, s);
+    arb_mul(sum, &boore_atkinson_balls[row][BLIN], ln_v_over_760, BITS);
+    arb_add(sum, sum, rock, BITS);
+}
+
+static void boore_atkinson_between(const arb_way *way, arb_t median, arb_t sigma, fusnoch_scenario s)
+{
+    size_t row = row_before(BOORE_ATKINSON_PERIODS, s.period), column = s.mechanism == 9 ? UNSPECIFIED : SPECIFIED;
+    arb_srcptr at = boore_atkinson_balls[row], next = boore_atkinson_balls[row + 1];
+
+    weigh(&boore_atkinson_intervals[row], s.period);
+    arb_log_ui(ln_v, s.velocity, BITS);
+    arb_sub(ln_v_over_760, ln_v, ln_7600, BITS);
+    on_linear_ground(way, median, row, s);
+    on_linear_ground(way, upper_median, row + 1, s);
+    slope(bnl, at, s.velocity);
+    slope(upper_bnl, next, s.velocity);
+    if (!arb_is_zero(bnl) || !arb_is_zero(upper_bnl)) {
+        way->on_rock(rock_acceleration, 0, s);
+        nonlinear_over_slope(way, rock_acceleration);
+        arb_addmul(median, bnl, nonlinear, BITS);
+        arb_addmul(upper_median, upper_bnl, nonlinear, BITS);
+    }
+    go_between(median, upper_median);
+    arb_set(sigma, &at[column]);
+    go_between(sigma, &next[column]);
+}
+
 static void answer(const arb_way *way, arb_t median, arb_t sigma, fusnoch_scenario s)
 {
     if (s.model == 1)
         idriss(way, median, sigma, s);
     else
         boore_atkinson(way, median, sigma, s);
+}
+
+static void answer_between(const arb_way *way, arb_t median, arb_t sigma, fusnoch_scenario s)
+{
+    if (s.model == 1)
+        idriss_between(way, median, sigma, s);
+    else
+        boore_atkinson_between(way, median, sigma, s);
 }
 
 void answer_in_arb_terms(arb_t median, arb_t sigma, fusnoch_scenario s)
@@ -258,4 +373,14 @@ void answer_in_arb_terms(arb_t median, arb_t sigma, fusnoch_scenario s)
 void answer_in_arb_tuned(arb_t median, arb_t sigma, fusnoch_scenario s)
 {
     answer(&TUNED, median, sigma, s);
+}
+
+void answer_between_in_arb_terms(arb_t median, arb_t sigma, fusnoch_scenario s)
+{
+    answer_between(&TERM_BY_TERM, median, sigma, s);
+}
+
+void answer_between_in_arb_tuned(arb_t median, arb_t sigma, fusnoch_scenario s)
+{
+    answer_between(&TUNED, median, sigma, s);
 }

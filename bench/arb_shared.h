@@ -33,6 +33,8 @@ typedef struct {
     void (*ready)(void);
     /* The median of Idriss from a row of the coefficients. */
     void (*idriss_median)(arb_t median, arb_srcptr at, fusnoch_scenario s);
+    /* The same from a further row for the scenario of the call before, whose logarithms still stand. */
+    void (*idriss_again)(arb_t median, arb_srcptr at, fusnoch_scenario s);
     /* The distance term and the magnitude term of Boore-Atkinson; for the row PGA this is p. */
     void (*on_rock)(arb_t sum, size_t row, fusnoch_scenario s);
     /* The branches that p may reach, added up.  If BETWEEN is one of them, z becomes p - ln 0.03. */

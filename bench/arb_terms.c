@@ -14,6 +14,22 @@ static void ready(void)
     arb_init(factor);
 }
 
+/* With the logarithms and 8.5 - M at hand. */
+static inline void idriss_sum(arb_t median, arb_srcptr at, const fusnoch_scenario *s, ulong to_top)
+{
+    arb_set(factor, &at[B1]);
+    arb_addmul_ui(factor, &at[B2], s->magnitude, BITS);
+
+    arb_set(median, &at[A1]);
+    arb_addmul_ui(median, &at[A2], s->magnitude, BITS);
+    arb_addmul_ui(median, &at[A3], to_top * to_top, BITS);
+    arb_submul(median, factor, ln_r, BITS);
+    arb_addmul(median, &at[XI], ln_v, BITS);
+    arb_addmul_ui(median, &at[GAMMA], s->distance, BITS);
+    if (s->mechanism >= 2)
+        arb_add(median, median, &at[PHI], BITS);
+}
+
 static void idriss_median(arb_t median, arb_srcptr at, fusnoch_scenario s)
 {
     ulong to_top = 850 - s.magnitude;
@@ -23,18 +39,12 @@ static void idriss_median(arb_t median, arb_srcptr at, fusnoch_scenario s)
     arb_sub(ln_r, ln_r, ln_100, BITS);
     arb_log_ui(ln_v, s.velocity < 12000 ? s.velocity : 12000, BITS);
     arb_sub(ln_v, ln_v, ln_10, BITS);
+    idriss_sum(median, at, &s, to_top);
+}
 
-    arb_set(factor, &at[B1]);
-    arb_addmul_ui(factor, &at[B2], s.magnitude, BITS);
-
-    arb_set(median, &at[A1]);
-    arb_addmul_ui(median, &at[A2], s.magnitude, BITS);
-    arb_addmul_ui(median, &at[A3], to_top * to_top, BITS);
-    arb_submul(median, factor, ln_r, BITS);
-    arb_addmul(median, &at[XI], ln_v, BITS);
-    arb_addmul_ui(median, &at[GAMMA], s.distance, BITS);
-    if (s.mechanism >= 2)
-        arb_add(median, median, &at[PHI], BITS);
+static void idriss_again(arb_t median, arb_srcptr at, fusnoch_scenario s)
+{
+    idriss_sum(median, at, &s, 850 - s.magnitude);
 }
 
 static void on_rock(arb_t sum, size_t row, fusnoch_scenario s)
@@ -75,4 +85,4 @@ static int branches(arb_t z, const arb_t p)
     return (above_lower ? 0 : UP_TO_LOWER) + (between ? BETWEEN : 0) + (up_to_upper ? 0 : ABOVE_UPPER);
 }
 
-const arb_way TERM_BY_TERM = {ready, idriss_median, on_rock, branches};
+const arb_way TERM_BY_TERM = {ready, idriss_median, idriss_again, on_rock, branches};

@@ -37,6 +37,12 @@ static void idriss_median(arb_t median, arb_srcptr at, fusnoch_scenario s)
     arb_dot(median, NULL, 0, at, 1, term, 1, IDRISS_COLUMNS, BITS);
 }
 
+static void idriss_again(arb_t median, arb_srcptr at, fusnoch_scenario s)
+{
+    (void)s;
+    arb_dot(median, NULL, 0, at, 1, idriss_terms, 1, IDRISS_COLUMNS, BITS);
+}
+
 static void on_rock(arb_t sum, size_t row, fusnoch_scenario s)
 {
     arb_srcptr at = boore_atkinson_balls[row], e = &at[E_OF_CODE[s.mechanism]];
@@ -77,4 +83,4 @@ static int branches(arb_t z, const arb_t p)
     return reached;
 }
 
-const arb_way TUNED = {ready, idriss_median, on_rock, branches};
+const arb_way TUNED = {ready, idriss_median, idriss_again, on_rock, branches};

@@ -1,9 +1,12 @@
 /* The benchmark: nanoseconds per answer of the engine's library, of plain C doubles and of Arb in two ways, in one run.
 
-   bench                           checks that all agree, then measures and prints a table for each model
-   bench count CONTESTANT MODEL N  only works out N answers, for a counter of instructions
+   bench                                   checks that all agree, then measures and prints a table for each model, first
+                                           at periods with a row, then between rows
+   bench count CONTESTANT MODEL PERIODS N  only works out N answers, for a counter of instructions; PERIODS is tabled or
+                                           between
 
-   Scenarios are drawn over all the limits of a model, with a fixed seed, and kept in memory with their records. */
+   Scenarios are drawn over all the limits of a model, with a fixed seed, and kept in memory with their records.  Those
+   between rows are the same but for their periods. */
 
 #include <math.h>
 #include <sched.h>
@@ -23,6 +26,8 @@ typedef struct {
     fusnoch_scenario scenario[SCENARIOS];
     uint8_t record[SCENARIOS][RECORD_ROOM];
     size_t length[SCENARIOS];
+    /* Whether the periods lie between rows. */
+    int between;
 } drawn;
 
 static const char *const MODEL_NAMES[2] = {"Idriss 2014", "Boore and Atkinson 2008"};
@@ -42,31 +47,46 @@ static uint32_t draw(uint64_t *state, uint32_t limit)
     return (uint32_t)((x ^ x >> 31) % limit);
 }
 
+/* Periods with a row, peak acceleration first. */
+static const uint16_t IDRISS_PERIODS[] = {0,   10,  20,  30,  40,   50,   75,   100,  150,  200,  250, 300,
+                                          400, 500, 750, 1000, 1500, 2000, 3000, 4000, 5000, 7500, 10000};
+static const uint16_t BOORE_ATKINSON_PERIODS[] = {0,   10,  20,  30,   50,   75,   100,  150,  200,  250,  300,
+                                                  400, 500, 750, 1000, 1500, 2000, 3000, 4000, 5000, 7500, 10000};
+enum {
+    OF_IDRISS = sizeof IDRISS_PERIODS / sizeof *IDRISS_PERIODS,
+    OF_BOORE_ATKINSON = sizeof BOORE_ATKINSON_PERIODS / sizeof *BOORE_ATKINSON_PERIODS
+};
+
 static fusnoch_scenario draw_idriss(uint64_t *state)
 {
-    static const uint16_t periods[] = {0,   10,  20,  30,  40,   50,   75,   100,  150,  200,  250, 300,
-                                       400, 500, 750, 1000, 1500, 2000, 3000, 4000, 5000, 7500, 10000};
     fusnoch_scenario s = {.model = 1};
     s.magnitude = 450 + draw(state, 790 - 450 + 1);
     s.distance = draw(state, 17500 + 1);
     s.velocity = 4500 + draw(state, 20000 - 4500 + 1);
     s.mechanism = draw(state, 5);
-    s.period = periods[draw(state, sizeof periods / sizeof *periods)];
+    s.period = IDRISS_PERIODS[draw(state, OF_IDRISS)];
     return s;
 }
 
 static fusnoch_scenario draw_boore_atkinson(uint64_t *state)
 {
-    static const uint16_t periods[] = {0,   10,  20,  30,   50,   75,   100,  150,  200,  250,  300,
-                                       400, 500, 750, 1000, 1500, 2000, 3000, 4000, 5000, 7500, 10000};
     static const uint8_t codes[] = {0, 1, 2, 3, 9};
     fusnoch_scenario s = {.model = 2};
     s.magnitude = 500 + draw(state, 800 - 500 + 1);
     s.distance = draw(state, 19999 + 1);
     s.velocity = 1800 + draw(state, 13000 - 1800 + 1);
     s.mechanism = codes[draw(state, sizeof codes)];
-    s.period = periods[draw(state, sizeof periods / sizeof *periods)];
+    s.period = BOORE_ATKINSON_PERIODS[draw(state, OF_BOORE_ATKINSON)];
     return s;
+}
+
+/* Two neighbouring rows of the model, all such pairs alike, and a period between them; peak acceleration is no
+   neighbour. */
+static uint16_t draw_between(uint64_t *state, int model)
+{
+    const uint16_t *periods = model == 1 ? IDRISS_PERIODS : BOORE_ATKINSON_PERIODS;
+    uint32_t lower = 1 + draw(state, (model == 1 ? OF_IDRISS : OF_BOORE_ATKINSON) - 2);
+    return periods[lower] + 1 + draw(state, periods[lower + 1] - periods[lower] - 1);
 }
 
 static uint8_t *put_two(uint8_t *place, uint16_t number)
@@ -93,11 +113,15 @@ static size_t encode(uint8_t *record, fusnoch_scenario s)
     return (size_t)(place - record);
 }
 
-static void draw_all(drawn *all, int model)
+/* Periods between rows come from a generator of their own, so that all other fields are those of the tabled ones. */
+static void draw_all(drawn *all, int model, int between)
 {
-    uint64_t state = 20140801 + (uint64_t)model;
+    uint64_t state = 20140801 + (uint64_t)model, state_between = 20080201 + (uint64_t)model;
+    all->between = between;
     for (int i = 0; i < SCENARIOS; i++) {
         all->scenario[i] = model == 1 ? draw_idriss(&state) : draw_boore_atkinson(&state);
+        if (between)
+            all->scenario[i].period = draw_between(&state_between, model);
         all->length[i] = encode(all->record[i], all->scenario[i]);
     }
 }
@@ -149,15 +173,16 @@ static void run_record_in_doubles(const drawn *all, size_t answers)
 
 static void run_plain(const drawn *all, size_t answers)
 {
+    plain_answer (*answer)(fusnoch_scenario) = all->between ? answer_between_in_plain_c : answer_in_plain_c;
     double sum = 0;
     for (size_t i = 0; i < answers; i++) {
-        plain_answer a = answer_in_plain_c(all->scenario[i % SCENARIOS]);
+        plain_answer a = answer(all->scenario[i % SCENARIOS]);
         sum += a.median + a.sigma;
     }
     consumed_double += sum;
 }
 
-static void run_arb(const drawn *all, size_t answers, void (*answer)(arb_t, arb_t, fusnoch_scenario))
+static inline void run_arb(const drawn *all, size_t answers, void (*answer)(arb_t, arb_t, fusnoch_scenario))
 {
     uint64_t sum = 0;
     arb_t median, sigma;
@@ -174,12 +199,18 @@ static void run_arb(const drawn *all, size_t answers, void (*answer)(arb_t, arb_
 
 static void run_arb_terms(const drawn *all, size_t answers)
 {
-    run_arb(all, answers, answer_in_arb_terms);
+    if (all->between)
+        run_arb(all, answers, answer_between_in_arb_terms);
+    else
+        run_arb(all, answers, answer_in_arb_terms);
 }
 
 static void run_arb_tuned(const drawn *all, size_t answers)
 {
-    run_arb(all, answers, answer_in_arb_tuned);
+    if (all->between)
+        run_arb(all, answers, answer_between_in_arb_tuned);
+    else
+        run_arb(all, answers, answer_in_arb_tuned);
 }
 
 /* The loop alone.  The empty line keeps the compiler from taking several scenarios at a time. */
@@ -306,6 +337,20 @@ static void print_fault(const char *fault, fusnoch_scenario s, const answered *a
     print_balls("Arb tuned", a->tuned_median, a->tuned_sigma);
 }
 
+static void ask_all(answered *a, fusnoch_scenario s, int between)
+{
+    a->ours = fusnoch_answer_fields(s);
+    if (between) {
+        a->plain = answer_between_in_plain_c(s);
+        answer_between_in_arb_terms(a->terms_median, a->terms_sigma, s);
+        answer_between_in_arb_tuned(a->tuned_median, a->tuned_sigma, s);
+    } else {
+        a->plain = answer_in_plain_c(s);
+        answer_in_arb_terms(a->terms_median, a->terms_sigma, s);
+        answer_in_arb_tuned(a->tuned_median, a->tuned_sigma, s);
+    }
+}
+
 /* Say whether all contestants agree on all the scenarios; print the first one on which they do not. */
 static int agree(const drawn *all)
 {
@@ -315,10 +360,7 @@ static int agree(const drawn *all)
     for (int ball = 0; ball < 4; ball++)
         arb_init(balls[ball]);
     for (int i = 0; i < SCENARIOS && fault == NULL; i++) {
-        a.ours = fusnoch_answer_fields(all->scenario[i]);
-        a.plain = answer_in_plain_c(all->scenario[i]);
-        answer_in_arb_terms(a.terms_median, a.terms_sigma, all->scenario[i]);
-        answer_in_arb_tuned(a.tuned_median, a.tuned_sigma, all->scenario[i]);
+        ask_all(&a, all->scenario[i], all->between);
         fault = fault_of(all, i, &a);
         if (fault != NULL)
             print_fault(fault, all->scenario[i], &a);
@@ -393,49 +435,60 @@ static void keep_to_one_core(void)
         fprintf(stderr, "bench: not held to one core\n");
 }
 
+/* Measure both models and print a table for each. */
+static void measure_and_print(const drawn all[2])
+{
+    static double times[2][TIMED][ROUNDS];
+    measure(all, times);
+    for (int model = 1; model <= 2; model++)
+        print_times(model, times[model - 1]);
+}
+
 static int compare(void)
 {
-    static drawn all[2];
-    static double times[2][TIMED][ROUNDS];
+    static drawn tabled[2], between[2];
 
     keep_to_one_core();
     for (int model = 1; model <= 2; model++) {
-        draw_all(&all[model - 1], model);
-        if (!agree(&all[model - 1]))
+        draw_all(&tabled[model - 1], model, 0);
+        draw_all(&between[model - 1], model, 1);
+        if (!agree(&tabled[model - 1]) || !agree(&between[model - 1]))
             return 1;
     }
     printf("Nanoseconds per answer, one thread: %d scenarios of each model, drawn over all its limits.\n", SCENARIOS);
     printf("The contestants take turns, %d rounds of %d answers each; the best round and the median of the rounds.\n",
            ROUNDS, PASSES * SCENARIOS);
     printf("Before the measurement all contestants agreed on all of the scenarios.  Ratios are of the best rounds.\n");
-    measure(all, times);
-    for (int model = 1; model <= 2; model++)
-        print_times(model, times[model - 1]);
+    measure_and_print(tabled);
+    printf("\nBetween rows: the same scenarios at periods without a row, drawn over all pairs of neighbouring rows.\n");
+    measure_and_print(between);
     return 0;
 }
 
-static int count(const char *name, const char *model, const char *answers)
+static int count(const char *name, const char *model, const char *periods, const char *answers)
 {
     static drawn all;
-    int number = atoi(model);
+    int number = atoi(model), between = strcmp(periods, "between") == 0;
+    int known = (number == 1 || number == 2) && (between || strcmp(periods, "tabled") == 0);
     for (int who = 0; who < CONTESTANTS; who++) {
-        if (strcmp(name, CONTESTANT[who].name) == 0 && (number == 1 || number == 2)) {
-            draw_all(&all, number);
+        if (known && strcmp(name, CONTESTANT[who].name) == 0) {
+            draw_all(&all, number, between);
             CONTESTANT[who].run(&all, strtoul(answers, NULL, 10));
             return 0;
         }
     }
-    fprintf(stderr, "bench: no contestant %s or no model %s\n", name, model);
+    fprintf(stderr, "bench: no contestant %s, no model %s or no periods %s\n", name, model, periods);
     return 2;
 }
 
 int main(int words, char **word)
 {
+    ready_plain_c();
     ready_arb();
     if (words == 1)
         return compare();
-    if (words == 5 && strcmp(word[1], "count") == 0)
-        return count(word[2], word[3], word[4]);
-    fprintf(stderr, "usage: bench, or bench count CONTESTANT MODEL N\n");
+    if (words == 6 && strcmp(word[1], "count") == 0)
+        return count(word[2], word[3], word[4], word[5]);
+    fprintf(stderr, "usage: bench, or bench count CONTESTANT MODEL PERIODS N\n");
     return 2;
 }

@@ -1,8 +1,9 @@
 """The formulas' pairs of document 01 at a fineness n, from exact sums or from sums rounded outward.
 
-Written from document 01, 'What the numbers mean' and the two models, apart from the pairs of models.py.  Each formula
-is worked out in one of two ways.  EXACT adds every 1/k as a fraction and rounds nothing.  OUTWARD keeps 60 decimal
-places: every low end is rounded down and every high end is rounded up, so that its pair contains the exact one.
+Written from document 01, 'What the numbers mean' and the two models, and from W-201 of document 02 for the periods
+between the rows, apart from the pairs of models.py.  Each formula is worked out in one of two ways.  EXACT adds every
+1/k as a fraction and rounds nothing.  OUTWARD keeps 60 decimal places: every low end is rounded down and every high end
+is rounded up, so that its pair contains the exact one.
 """
 
 import math
@@ -12,7 +13,7 @@ from typing import Callable, NamedTuple
 
 from exact import Pair, add, div, ln_pair, mul, negative, reciprocal_sum, root_pair, stated, sub, true_ln
 from models import row_of, table_of
-from records import IDRISS, row
+from records import IDRISS, between_rows, neighbours, row
 
 PLACES = 60
 SCALE = 10 ** PLACES
@@ -138,12 +139,38 @@ def row_pairs(table, number):
 
 
 # ---------------------------------------------------------------------------
+# Periods between the rows
+# ---------------------------------------------------------------------------
+
+def between(way, period, lower, upper, v1, v2, n):
+    """Return the pair at a period between two others, from the pairs there, by the logarithm of the period."""
+    # W-201: "v1 + (v2 − v1) ln(T/T1) / ln(T2/T1)"; "a product [...] a quotient likewise, by a pair above zero".
+    risen = times(way, minus(way, v2, v1), way.ln(period, lower, n))
+    return plus(way, v1, over(way, risen, way.ln(upper, lower, n)))
+
+
+def at_the_period(way, scenario, n, with_row):
+    """Return the pair of a formula at the scenario's period; the formula takes the number of a row."""
+    model, period = scenario.model, scenario.period
+    if between_rows(model, period):
+        lower, upper = neighbours(model, period)
+        v1, v2 = with_row(row(model, lower)), with_row(row(model, upper))
+        return between(way, period, lower, upper, v1, v2, n)
+    return with_row(row(model, period))
+
+
+# ---------------------------------------------------------------------------
 # Idriss
 # ---------------------------------------------------------------------------
 
 def idriss_median(way, scenario, n):
-    """Return the pair of Idriss's median, equation 3."""
-    at = row_pairs(f'idriss-{table_of(scenario.magnitude)}', row(IDRISS, scenario.period))
+    """Return the pair of Idriss's median."""
+    return at_the_period(way, scenario, n, lambda number: idriss_with_row(way, number, scenario, n))
+
+
+def idriss_with_row(way, number, scenario, n):
+    """Return the pair of Idriss's median with a row, equation 3."""
+    at = row_pairs(f'idriss-{table_of(scenario.magnitude)}', number)
     m, r = hundredths(scenario.magnitude), hundredths(scenario.distance)
     # "F is 0 for codes 0 and 1, and 1 for 2, 3 and 4."
     f = stated(0) if scenario.mechanism < 2 else stated(1)
@@ -158,7 +185,7 @@ def idriss_median(way, scenario, n):
 
 def idriss_sigma(way, scenario, n):
     """Return the pair of Idriss's sigma."""
-    # "T in seconds held to 0.05 to 3 and M held to 5 to 7.5"
+    # "T in seconds held to 0.05 to 3 and M held to 5 to 7.5"; W-201: "sigma of Idriss uses T itself".
     t = sorted((50, scenario.period, 3000))[1]
     m = sorted((500, scenario.magnitude, 750))[1]
     return minus(way, plus(way, stated('1.18'), times(way, stated('0.035'), way.ln(t, 1000, n))),
@@ -219,14 +246,24 @@ def nonlinear(way, bnl, p, n):
 
 
 def boore_atkinson_median(way, scenario, n):
-    """Return the pair of Boore-Atkinson's median: on rock, the linear part and the nonlinear part added."""
-    number = row(scenario.model, scenario.period)
+    """Return the pair of Boore-Atkinson's median."""
+    # "The PGA row with the scenario's own mechanism, no site term": the same for each row.
+    p = on_rock(way, 0, scenario, n)
+    return at_the_period(way, scenario, n, lambda number: boore_atkinson_with_row(way, number, scenario, p, n))
+
+
+def boore_atkinson_with_row(way, number, scenario, p, n):
+    """Return the pair of Boore-Atkinson's median with a row: on rock, the linear part and the nonlinear part added."""
     at = row_pairs('boore-atkinson-3', number)
     linear = times(way, at['blin'], way.ln(scenario.velocity, 7600, n))
     bnl = slope(way, at, scenario.velocity, n)
-    # "The PGA row with the scenario's own mechanism, no site term."
-    p = on_rock(way, 0, scenario, n)
     return plus(way, on_rock(way, number, scenario, n), linear, nonlinear(way, bnl, p, n))
+
+
+def boore_atkinson_sigma(way, scenario, n):
+    """Return the pair of Boore-Atkinson's sigma, by the column of the code."""
+    column = 'σTU' if scenario.mechanism == 9 else 'σTM'
+    return at_the_period(way, scenario, n, lambda number: row_pairs('boore-atkinson-8', number)[column])
 
 
 # ---------------------------------------------------------------------------
@@ -237,8 +274,7 @@ def formula_pairs(way, scenario, n):
     """Return the pairs of median and sigma of an accepted scenario at fineness n."""
     if scenario.model == IDRISS:
         return idriss_median(way, scenario, n), idriss_sigma(way, scenario, n)
-    at = row_pairs('boore-atkinson-8', row(scenario.model, scenario.period))
-    return boore_atkinson_median(way, scenario, n), at['σTU' if scenario.mechanism == 9 else 'σTM']
+    return boore_atkinson_median(way, scenario, n), boore_atkinson_sigma(way, scenario, n)
 
 
 def contains(p, q):

@@ -1,19 +1,23 @@
 """The two ground-motion models of document 01, over exact fractions.
 
-Written from document 01, Idriss 2014 and Boore and Atkinson 2008 alone.  The first part reads the coefficients and
-knows the limits of the fields.  The second part encloses the real value of each formula, rounded outward at 50
-decimal places.  The third part works the same formulas out over pairs at a fineness n, as document 01, 'What the
-numbers mean', says.  The second and the third part are written separately, so that each can check the other.
+Written from document 01, Idriss 2014 and Boore and Atkinson 2008 alone, and from W-201 of document 02 for the periods
+between the rows.  The first part reads the coefficients and knows the limits of the fields.  The second part encloses
+the real value of each formula, rounded outward at 50 decimal places.  The third part works the same formulas out over
+pairs at a fineness n, as document 01, 'What the numbers mean', says.  The second and the third part are written
+separately, so that each can check the other.
+
+A formula is worked out with a row, counted from 0.  A function whose name ends in `_at`, or in `_at_pair`, takes any
+accepted period instead: 0, a tabled one, or one between two rows.  Idriss's sigma has the period in its formula.
 
 Fields are whole numbers in document 01's units: magnitude 0.01, distance 0.01 km, velocity 0.1 m/s, period 0.001 s.
 """
 
-import math
 import os
 from fractions import Fraction
 from functools import lru_cache
 from typing import NamedTuple, Tuple
 
+import records
 from exact import (Pair, add, div, ln_pair, mul, negative, reciprocal_sum, root_pair, stated, sub, true_ln,
                    true_root)
 
@@ -127,6 +131,23 @@ def held(number, low, high):
 
 
 # ---------------------------------------------------------------------------
+# The rows of a period
+# ---------------------------------------------------------------------------
+
+def by_period(model, period, by_row, between_two):
+    """Return what a formula gives at an accepted period: by its row, or between those by its two neighbouring rows.
+
+    The formula takes a row; what is between two takes the period, its neighbours and the values there.
+    """
+    if not records.between_rows(model, period):
+        # W-201: "Tabled periods answer as before", and so does 0.
+        return by_row(records.row(model, period))
+    lower, upper = records.neighbours(model, period)
+    v1, v2 = (by_row(records.row(model, tabled)) for tabled in (lower, upper))
+    return between_two(period, lower, upper, v1, v2)
+
+
+# ---------------------------------------------------------------------------
 # Parts that are exact fractions
 # ---------------------------------------------------------------------------
 
@@ -136,6 +157,7 @@ def table_of(magnitude):
     return 2 if magnitude <= 675 else 3
 
 
+@lru_cache(maxsize=None)
 def alpha_part(table, row, magnitude):
     """Return α1 + α2 M + α3 (8.5 − M)² of Idriss."""
     at = row_of(f'idriss-{table}', row)
@@ -143,6 +165,7 @@ def alpha_part(table, row, magnitude):
     return at['α1'] + at['α2'] * m + at['α3'] * (Fraction('8.5') - m) ** 2
 
 
+@lru_cache(maxsize=None)
 def beta_factor(table, row, magnitude):
     """Return β1 + β2 M of Idriss."""
     at = row_of(f'idriss-{table}', row)
@@ -155,6 +178,7 @@ def reverse_or_oblique(mechanism):
     return {0: 0, 1: 0, 2: 1, 3: 1, 4: 1}[mechanism]
 
 
+@lru_cache(maxsize=None)
 def magnitude_term(row, magnitude, mechanism):
     """Return the magnitude term of Boore-Atkinson, equations 5a and 5b."""
     at = row_of('boore-atkinson-7', row)
@@ -167,6 +191,7 @@ def magnitude_term(row, magnitude, mechanism):
     return e + at['e7'] * beyond_hinge
 
 
+@lru_cache(maxsize=None)
 def distance_factor(row, magnitude):
     """Return c1 + c2 (M − Mref) of Boore-Atkinson, Mref 4.5."""
     at = row_of('boore-atkinson-6', row)
@@ -198,7 +223,9 @@ GRID = 10 ** PLACES
 
 def outward(p):
     """Return the pair rounded outward at the last of the decimal places."""
-    return Pair(Fraction(math.floor(p.low * GRID), GRID), Fraction(math.ceil(p.high * GRID), GRID))
+    low, high = p
+    return Pair(Fraction(low.numerator * GRID // low.denominator, GRID),
+                Fraction(-(-high.numerator * GRID // high.denominator), GRID))
 
 
 @lru_cache(maxsize=None)
@@ -211,6 +238,18 @@ def real_ln(a, b):
 def real_root(x):
     """Return a pair around the real root of x."""
     return outward(true_root(x, PLACES + 5))
+
+
+@lru_cache(maxsize=None)
+def part_of_the_way(period, lower, upper):
+    """Return a pair around the real ln(T/T1) / ln(T2/T1), which is from 0 to 1."""
+    return outward(div(real_ln(period, lower), real_ln(upper, lower)))
+
+
+def between(period, lower, upper, v1, v2):
+    """Return a pair around the real value at a period between two rows, from pairs around those by the rows."""
+    # W-201: "the value is v1 + (v2 − v1) ln(T/T1) / ln(T2/T1)".
+    return outward(add(v1, mul(sub(v2, v1), part_of_the_way(period, lower, upper))))
 
 
 def weighted(exact, *terms):
@@ -232,10 +271,16 @@ def idriss_median(table, row, magnitude, distance, velocity, mechanism):
                     (at['ξ'], real_ln(min(velocity, 12000), 10)))
 
 
+def idriss_median_at(table, period, magnitude, distance, velocity, mechanism):
+    """Return a pair around the real median of Idriss at an accepted period, with one of its tables."""
+    return by_period(records.IDRISS, period,
+                     lambda row: idriss_median(table, row, magnitude, distance, velocity, mechanism), between)
+
+
 def idriss_sigma(period, magnitude):
-    """Return a pair around the real sigma of Idriss; period 0 is peak acceleration."""
+    """Return a pair around the real sigma of Idriss at an accepted period; 0 is peak acceleration."""
     # "Period 0 uses the row 0.01", whose period is held to 0.05 like the others below that.
-    # "T in seconds held to 0.05 to 3 and M held to 5 to 7.5"
+    # "T in seconds held to 0.05 to 3 and M held to 5 to 7.5"; W-201: "sigma of Idriss uses T itself".
     t, m = held(period or 10, 50, 3000), held(magnitude, 500, 750)
     exact = Fraction('1.18') - Fraction('0.06') * Fraction(m, 100)
     return weighted(exact, (Fraction('0.035'), real_ln(t, 1000)))
@@ -251,8 +296,9 @@ def on_rock(row, magnitude, distance, mechanism):
                     (distance_factor(row, magnitude) / 2, real_ln(x, 10000)), (c3 / 100, real_root(x)))
 
 
+@lru_cache(maxsize=1)
 def rock_acceleration(magnitude, distance, mechanism):
-    """Return a pair around the real p, the logarithm of the rock acceleration."""
+    """Return a pair around the real p, the logarithm of the rock acceleration; the same for both rows of a period."""
     # "The PGA row with the scenario's own mechanism, no site term."
     return on_rock(0, magnitude, distance, mechanism)
 
@@ -272,20 +318,28 @@ def slope(row, velocity):
     return stated(0)
 
 
+@lru_cache(maxsize=None)
+def transition_brackets():
+    """Return pairs around the real 3 ln 1.5 − x and x − 2 ln 1.5, with x = ln 3."""
+    x, y = real_ln(3, 1), real_ln(15, 10)
+    square, cube = sub(mul(stated(3), y), x), sub(x, mul(stated(2), y))
+    if square.low <= 0 or cube.low <= 0:
+        raise ValueError('the transition curve is not rising')
+    return square, cube
+
+
 def transition(p):
     """Return the span of the nonlinear part over the slope, between the thresholds, for p there."""
     # With u = z/x the document's c z² + d z³ is bnl ((3 ln 1.5 − x) u² + (x − 2 ln 1.5) u³).  Both brackets are above
     # zero and u is not below zero, so the span runs from its value at the low end to its value at the high end.
-    x, y = real_ln(3, 1), real_ln(15, 10)
+    square, cube = transition_brackets()
     z = sub(p, real_ln(3, 100))
-    u = div(Pair(max(z.low, Fraction(0)), z.high), x)
-    square, cube = sub(mul(stated(3), y), x), sub(x, mul(stated(2), y))
-    if square.low <= 0 or cube.low <= 0:
-        raise ValueError('the transition curve is not rising')
+    u = outward(div(Pair(max(z.low, Fraction(0)), z.high), real_ln(3, 1)))
     grown = add(mul(square, mul(u, u)), mul(cube, mul(u, mul(u, u))))
     return outward(add(real_ln(6, 10), grown))
 
 
+@lru_cache(maxsize=1)
 def nonlinear_over_slope(p):
     """Return the span, over all real numbers of the pair p, of the nonlinear part over the slope."""
     lower, upper = real_ln(3, 100), real_ln(9, 100)
@@ -312,6 +366,21 @@ def boore_atkinson_median(row, magnitude, distance, velocity, mechanism):
     linear = weighted(0, (row_of('boore-atkinson-3', row)['blin'], real_ln(velocity, 7600)))
     nonlinear = nonlinear_range(row, velocity, rock_acceleration(magnitude, distance, mechanism))
     return add(add(on_rock(row, magnitude, distance, mechanism), linear), nonlinear)
+
+
+def boore_atkinson_median_at(period, magnitude, distance, velocity, mechanism):
+    """Return a pair around the real median of Boore-Atkinson at an accepted period."""
+    # Each of the two rows has its own site term, with the same p.
+    return by_period(records.BOORE_ATKINSON, period,
+                     lambda row: boore_atkinson_median(row, magnitude, distance, velocity, mechanism), between)
+
+
+@lru_cache(maxsize=None)
+def boore_atkinson_sigma_at(period, mechanism):
+    """Return a pair around the real sigma of Boore-Atkinson at an accepted period, with equal ends at a row."""
+    # W-201: "Sigma of Boore-Atkinson goes the same way".
+    return by_period(records.BOORE_ATKINSON, period,
+                     lambda row: stated(boore_atkinson_sigma(row, mechanism)), between)
 
 
 # ---------------------------------------------------------------------------
@@ -377,6 +446,20 @@ def total(*pairs):
     return result
 
 
+def between_pair(period, lower, upper, v1, v2, n):
+    """Return the formula's pair at a period between two rows, from the formulas' pairs by the rows."""
+    # v1 + (v2 − v1) ln(T/T1) / ln(T2/T1), the product first.  "A formula at fineness n is worked out over such pairs":
+    # v1 occurs twice, and the difference knows nothing of the sum.
+    step = div(product(sub(v2, v1), formula_ln(period, lower, n)), formula_ln(upper, lower, n))
+    return total(v1, step)
+
+
+def by_period_pair(model, period, by_row, n):
+    """Return the formula's pair at an accepted period: with its row, or between two."""
+    return by_period(model, period, by_row,
+                     lambda t, lower, upper, v1, v2: between_pair(t, lower, upper, v1, v2, n))
+
+
 def idriss_median_pair(table, row, magnitude, distance, velocity, mechanism, n):
     """Return the formula's pair of the median of Idriss."""
     a1, a2, a3, b1, b2, xi, gamma, phi = map(stated, row_of(f'idriss-{table}', row).values())
@@ -390,8 +473,14 @@ def idriss_median_pair(table, row, magnitude, distance, velocity, mechanism, n):
     return total(sub(alpha, beta), mul(xi, ln_v), mul(gamma, r), mul(phi, f))
 
 
+def idriss_median_at_pair(table, period, magnitude, distance, velocity, mechanism, n):
+    """Return the formula's pair of the median of Idriss at an accepted period, with one of its tables."""
+    return by_period_pair(records.IDRISS, period, lambda row: idriss_median_pair(
+        table, row, magnitude, distance, velocity, mechanism, n), n)
+
+
 def idriss_sigma_pair(period, magnitude, n):
-    """Return the formula's pair of sigma of Idriss; period 0 is peak acceleration."""
+    """Return the formula's pair of sigma of Idriss at an accepted period; 0 is peak acceleration."""
     if period < 50:
         period = 50
     if period > 3000:
@@ -493,3 +582,14 @@ def boore_atkinson_sigma_pair(row, mechanism):
     """Return the formula's pair of sigma of Boore-Atkinson: "Its two ends are equal."."""
     unspecified, specified = row_of('boore-atkinson-8', row).values()
     return stated(unspecified if mechanism == 9 else specified)
+
+
+def boore_atkinson_median_at_pair(period, magnitude, distance, velocity, mechanism, n):
+    """Return the formula's pair of the median of Boore-Atkinson at an accepted period."""
+    return by_period_pair(records.BOORE_ATKINSON, period, lambda row: boore_atkinson_median_pair(
+        row, magnitude, distance, velocity, mechanism, n), n)
+
+
+def boore_atkinson_sigma_at_pair(period, mechanism, n):
+    """Return the formula's pair of sigma of Boore-Atkinson at an accepted period."""
+    return by_period_pair(records.BOORE_ATKINSON, period, lambda row: boore_atkinson_sigma_pair(row, mechanism), n)

@@ -1,6 +1,7 @@
 """Scenarios and records of document 01, as plain functions on whole numbers and bytes.
 
-Written from document 01 alone: 'The scenario', 'Records and doubles' and 'What is turned away'.
+Written from document 01 alone: 'The scenario', 'Records and doubles' and 'What is turned away'; and, for the periods
+between the rows, from W-201 of document 02.
 """
 
 from typing import NamedTuple
@@ -40,6 +41,9 @@ PERIODS = {
                      7500, 10000),
 }
 
+# W-201: "A whole number of thousandths from 10 to 10000" is accepted by both models, tabled or not, and 0 as before.
+PERIOD = (10, 10000)
+
 # The row of a period that is neither 0 nor tabled: one past the last.
 NO_ROW = 22
 
@@ -68,10 +72,15 @@ def refusal(scenario):
     # 5 mechanism: not a code of the model
     if mechanism not in MECHANISM[model]:
         return 5
-    # 6 period: neither 0 nor tabled for the model
-    if period != 0 and period not in PERIODS[model]:
+    # 6 period: W-201, "Refusal 6 is left with 1 to 9 and above 10000"
+    if not accepts_period(period):
         return 6
     return 0
+
+
+def accepts_period(period):
+    """Say whether both models accept a period: 0, or from 10 to 10000 thousandths."""
+    return period == 0 or not beyond(period, PERIOD)
 
 
 def row(model, period):
@@ -94,10 +103,35 @@ def place(model, period):
     """
     if row(model, period) != NO_ROW:
         return f'row {row(model, period)}'
-    before = [tabled for tabled in PERIODS[model] if tabled < period]
-    if before and len(before) < len(PERIODS[model]):
-        return f'between {row(model, before[-1])}'
+    if between_rows(model, period):
+        return f'between {row(model, neighbours(model, period)[0])}'
     return 'outside'
+
+
+def between_rows(model, period):
+    """Say whether a period of model 1 or 2 is accepted and lies between two rows."""
+    return accepts_period(period) and row(model, period) == NO_ROW
+
+
+def neighbours(model, period):
+    """Return the neighbours of an accepted period that is neither 0 nor tabled for model 1 or 2."""
+    # W-201: "answered between the two neighbouring rows of the model"; they are the greatest listed period below and
+    # the least above.  The row PGA has no period, and is no neighbour of any.
+    return (max(tabled for tabled in PERIODS[model] if tabled < period),
+            min(tabled for tabled in PERIODS[model] if tabled > period))
+
+
+def rows(model, period):
+    """Return ('R', number), or ('T', lower, upper): the periods of the two rows that an answer rests on."""
+    if model not in (IDRISS, BOORE_ATKINSON):
+        return 'R', 1
+    if not accepts_period(period):
+        return 'R', 6
+    if between_rows(model, period):
+        return 'T', *neighbours(model, period)
+    # "Period 0 uses the row 0.01" in Idriss, and "the row PGA" in Boore-Atkinson, which has the number 0 here.
+    only = 10 if model == IDRISS and period == 0 else period
+    return 'T', only, only
 
 
 # ---------------------------------------------------------------------------

@@ -1,31 +1,35 @@
 """Streams of records for the program that reads records and prints enclosures.
 
-Written from document 01, 'The scenario', 'Records and doubles' and 'What is turned away', by way of records.py.  A
-stream is a run of accepted records, at times ended by a damaged or refused one or by a cut.  A refused record ends
-its stream, so each costs a process.  The refusal 10 cannot occur: its condition is that no bit stands, and 9 (bit 0,
-1 or 2 is clear) is checked before it.  Nor can 12, which belongs to writing.
+Written from document 01, 'The scenario', 'Records and doubles' and 'What is turned away', and W-201 of document 02, by
+way of records.py.  A stream is a run of accepted records, at times ended by a damaged or refused one or by a cut.  A
+refused record ends its stream, so each costs a process.  The refusal 10 cannot occur: its condition is that no bit
+stands, and 9 (bit 0, 1 or 2 is clear) is checked before it.  Nor can 12, which belongs to writing.
 """
 
 from itertools import combinations
 from typing import NamedTuple, Optional, Tuple
 
 import models
-from records import (ABSENT, BOORE_ATKINSON, DISTANCE, FIELDS, IDRISS, MAGNITUDE, MECHANISM, PERIODS, VELOCITY,
-                     Scenario, read, record)
+from records import (ABSENT, BOORE_ATKINSON, DISTANCE, FIELDS, IDRISS, MAGNITUDE, MECHANISM, PERIOD, PERIODS, VELOCITY,
+                     Scenario, between_rows, read, record)
 from test_models import closest, draw_fields, hinges
 
 # "It takes the first 4,096 bytes and ignores the rest."
 TAKEN = 4096
 LIMITS = {IDRISS: models.IDRISS, BOORE_ATKINSON: models.BOORE_ATKINSON}
-WIDE_FIELDS = ('magnitude', 'distance', 'velocity')
+# The first and the last number of each wide field, by model; period 0 is accepted besides.
+WIDE_FIELDS = {'magnitude': MAGNITUDE, 'distance': DISTANCE, 'velocity': VELOCITY,
+               'period': {model: PERIOD for model in (IDRISS, BOORE_ATKINSON)}}
 FIELD_END = 65535
+# Periods that both models turn away: W-201, "1 to 9 and above 10000".
+REFUSED_PERIODS = (1, 9, 10001, FIELD_END)
 
 # Map bytes in which bits 0 to 2 stand, 6 and 7 are clear.
 GOOD_MAPS = (0x07, 0x0f, 0x17, 0x1f, 0x27, 0x2f, 0x37, 0x3f)
 # Accepted scenarios, every field of which has to be written.
 WHOLE = {IDRISS: Scenario(1, 700, 1000, 7500, 2, 75), BOORE_ATKINSON: Scenario(2, 650, 258, 3600, 1, 200)}
 # For each model, numbers that are turned away by the refusals 1 to 6, in the order of the fields.
-WRONG = {IDRISS: Scenario(0, 449, 17501, 20001, 5, 70), BOORE_ATKINSON: Scenario(3, 801, 20000, 1799, 4, 40)}
+WRONG = {IDRISS: Scenario(0, 449, 17501, 20001, 5, 9), BOORE_ATKINSON: Scenario(3, 801, 20000, 1799, 4, 10001)}
 
 
 class Stream(NamedTuple):
@@ -89,6 +93,41 @@ def filled(size):
 
 
 # ---------------------------------------------------------------------------
+# Periods
+# ---------------------------------------------------------------------------
+
+def intervals(model):
+    """Return the neighbouring periods of a model's list, two and two."""
+    return [*zip(PERIODS[model], PERIODS[model][1:])]
+
+
+def middles(model):
+    """Return a period in the middle of each interval of a model's list."""
+    return [(lower + upper) // 2 for lower, upper in intervals(model)]
+
+
+def untabled(model):
+    """Return periods between the rows of a model: beside each row, in the middle of each interval, and 31 to 49."""
+    # Boore-Atkinson has no row 0.04: "31 to 49" are all between 30 and 50 there.
+    wanted = {*middles(model), *range(31, 50), 70}
+    wanted.update(tabled + step for tabled in PERIODS[IDRISS] for step in (-1, 0, 1))
+    return sorted(period for period in wanted if between_rows(model, period))
+
+
+def draw_untabled(rng, model):
+    """Draw a period between two rows, as often in one interval of the list as in any other."""
+    lower, upper = rng.choice(intervals(model))
+    return rng.randint(lower + 1, upper - 1)
+
+
+def draw_period(rng, model):
+    """Draw an accepted period, as often between two rows as a tabled one or 0."""
+    if rng.randrange(2):
+        return draw_untabled(rng, model)
+    return rng.choice((0, 0, *PERIODS[model]))
+
+
+# ---------------------------------------------------------------------------
 # Accepted scenarios
 # ---------------------------------------------------------------------------
 
@@ -97,7 +136,7 @@ def within(rng, model, **given):
     magnitude, distance, velocity, mechanism = draw_fields(rng, LIMITS[model])
     if rng.randrange(6) == 0:
         velocity = ABSENT['velocity']
-    period = rng.choice((0, 0, *PERIODS[model]))
+    period = draw_period(rng, model)
     return Scenario(model, magnitude, distance, velocity, mechanism, period)._replace(**given)
 
 
@@ -114,9 +153,9 @@ def accepts(model, field, number):
 
 
 def crossed(rng):
-    """Yield scenarios in which every period of each model meets each value, and each code."""
+    """Yield scenarios in which every row of each model, and the middle between any two, meets each value and code."""
     for model in (IDRISS, BOORE_ATKINSON):
-        for period in (0, *PERIODS[model]):
+        for period in (0, *PERIODS[model], *middles(model)):
             for field, values in CROSSED.items():
                 for value in values:
                     if accepts(model, field, value):
@@ -126,14 +165,31 @@ def crossed(rng):
 
 
 def joined(rng):
-    """Yield scenarios of every period at both sides of a table or hinge and of a velocity, near and at distance 0."""
+    """Yield scenarios of those periods at both sides of a table or hinge and of a velocity, near and at distance 0."""
     for model, magnitudes in ((IDRISS, (675, 676)), (BOORE_ATKINSON, (674, 675, 676))):
-        for period in (0, *PERIODS[model]):
+        for period in (0, *PERIODS[model], *middles(model)):
             for magnitude in magnitudes:
                 for velocity in CROSSED['velocity']:
                     if accepts(model, 'velocity', velocity):
                         yield within(rng, model, period=period, magnitude=magnitude, velocity=velocity,
                                      distance=rng.choice((0, 0, 1, 100, 1000)))
+
+
+def between_the_rows(rng):
+    """Yield scenarios of the periods between the rows: at both sides of Idriss's tables, and with each code."""
+    for model in (IDRISS, BOORE_ATKINSON):
+        for period in untabled(model):
+            for magnitude in (675, 676):
+                yield within(rng, model, period=period, magnitude=magnitude)
+            for code in MECHANISM[model]:
+                yield within(rng, model, period=period, mechanism=code)
+
+
+def every_period(rng):
+    """Yield a scenario of each accepted period of both models, from 10 to 10000 thousandths."""
+    for model in (IDRISS, BOORE_ATKINSON):
+        for period in range(PERIOD[0], PERIOD[1] + 1):
+            yield within(rng, model, period=period)
 
 
 def beyond_hinges():
@@ -145,23 +201,25 @@ def beyond_hinges():
 
 
 def sigmas():
-    """Yield scenarios of Idriss with every period and the magnitudes around those that sigma is held to."""
-    for period in (0, *PERIODS[IDRISS]):
+    """Yield scenarios of Idriss with every row, periods between, and the magnitudes around those sigma is held to."""
+    # Among them are 49, 50, 51, 2999, 3000 and 3001: "T in seconds held to 0.05 to 3".
+    for period in (0, *PERIODS[IDRISS], *untabled(IDRISS)):
         for magnitude in (450, 499, 500, 501, 625, 749, 750, 751, 790):
             yield Scenario(IDRISS, magnitude, 5000, 6000, 4, period)
 
 
 def thresholds(rng):
-    """Yield scenarios whose p is next to ln 0.03 or ln 0.09."""
-    for period in (0, *PERIODS[BOORE_ATKINSON]):
+    """Yield scenarios whose p is next to ln 0.03 or ln 0.09, with every row and between any two."""
+    for period in (0, *PERIODS[BOORE_ATKINSON], *middles(BOORE_ATKINSON)):
         for velocity in (1800, 1801, 2400, 3000, 3001, 5000, 7599, 7600, 13000):
             # Its p is 11 units from ln 0.09.
             yield Scenario(BOORE_ATKINSON, 754, 6065, velocity, 0, period)
     for number in (0.03, 0.09):
         for magnitude, distance, mechanism in closest(number, 60):
-            for _ in range(3):
-                yield within(rng, BOORE_ATKINSON, magnitude=magnitude, distance=distance, mechanism=mechanism,
-                             velocity=rng.randint(1800, 7599))
+            # Two of them with 0 or a tabled period, two between the rows.
+            rows = rng.sample((0, *PERIODS[BOORE_ATKINSON]), 2)
+            for period in (*rows, *(draw_untabled(rng, BOORE_ATKINSON) for _ in range(2))):
+                yield Scenario(BOORE_ATKINSON, magnitude, distance, rng.randint(1800, 7599), mechanism, period)
 
 
 # Scenarios whose median is within 4 units of 0, so that its ends change sign or are 0.
@@ -169,7 +227,11 @@ NEXT_TO_ZERO = (
     (1, 649, 39, 5125, 2, 30), (1, 553, 17, 5254, 2, 100), (1, 686, 413, 5666, 0, 100), (1, 687, 160, 9485, 2, 150),
     (1, 677, 836, 4700, 2, 150), (1, 650, 57, 8244, 0, 200), (1, 670, 5, 7753, 0, 300), (1, 734, 467, 5772, 2, 300),
     (2, 750, 9, 8234, 2, 100), (2, 774, 206, 10475, 3, 150), (2, 759, 190, 10336, 0, 150), (2, 644, 59, 9396, 2, 200),
-    (2, 670, 212, 8906, 2, 200), (2, 729, 114, 10070, 3, 300), (2, 762, 5, 10770, 0, 300))
+    (2, 670, 212, 8906, 2, 200), (2, 729, 114, 10070, 3, 300), (2, 762, 5, 10770, 0, 300),
+    # Between the rows.
+    (1, 634, 26, 5111, 3, 34), (1, 779, 389, 6058, 3, 58), (1, 704, 321, 5905, 0, 86), (1, 641, 299, 4973, 3, 91),
+    (1, 619, 279, 5122, 2, 117), (1, 649, 130, 6965, 3, 266), (1, 777, 106, 7327, 0, 331), (2, 691, 38, 7929, 2, 107),
+    (2, 699, 20, 11633, 3, 127), (2, 677, 59, 11900, 2, 138), (2, 754, 207, 10820, 3, 214), (2, 725, 68, 8952, 0, 308))
 
 
 def byte_order():
@@ -177,12 +239,13 @@ def byte_order():
     for model in (IDRISS, BOORE_ATKINSON):
         for magnitude in (513, 515, 770):
             for distance in (1, 256, 258, 513, 13330):
-                yield Scenario(model, magnitude, distance, 4864, 3, 300)
+                for period in (300, 258, 513, 2561):
+                    yield Scenario(model, magnitude, distance, 4864, 3, period)
 
 
-def short_idriss(rng):
-    """Yield scenarios of Idriss whose exact sums are short, every row at distances up to 1 km."""
-    for turn, period in enumerate(PERIODS[IDRISS]):
+def short_idriss(rng, periods):
+    """Yield scenarios of Idriss whose exact sums are short, at distances up to 1 km."""
+    for turn, period in enumerate(periods):
         yield within(rng, IDRISS, period=period, magnitude=rng.choice((600, 675, 676, 750)),
                      distance=(0, 37, 100)[turn % 3], velocity=(4500, 7600, 4501)[turn % 3])
 
@@ -195,14 +258,18 @@ def short_boore_atkinson(rng, periods):
 
 
 def long_sums(rng):
-    """Yield scenarios of every row of both models, at any distances."""
+    """Yield scenarios of every row of both models and of the periods between, at any distances."""
     for model in (IDRISS, BOORE_ATKINSON):
         for period in (0, *PERIODS[model]):
             for _ in range(4):
                 yield within(rng, model, period=period)
+        for period in untabled(model):
+            yield within(rng, model, period=period)
     for number in (0.03, 0.09):
         for magnitude, distance, mechanism in closest(number, 10):
-            yield within(rng, BOORE_ATKINSON, magnitude=magnitude, distance=distance, mechanism=mechanism)
+            for period in (rng.choice(PERIODS[BOORE_ATKINSON]), draw_untabled(rng, BOORE_ATKINSON)):
+                yield within(rng, BOORE_ATKINSON, magnitude=magnitude, distance=distance, mechanism=mechanism,
+                             period=period)
 
 
 def formula_streams(rng):
@@ -210,7 +277,12 @@ def formula_streams(rng):
     rows = (0, *PERIODS[BOORE_ATKINSON])
     few, all_three = (1,), (1, 2, 3)
     kind = "the formula's pairs"
-    yield from written(kind, short_idriss(rng), exact=all_three, outward=all_three)
+    yield from written(kind, short_idriss(rng, PERIODS[IDRISS]), exact=all_three, outward=all_three)
+    yield from written(kind, short_idriss(rng, middles(IDRISS)[:10]), exact=all_three, outward=all_three)
+    yield from written(kind, short_idriss(rng, middles(IDRISS)[10:]), exact=few, outward=all_three)
+    yield from written(kind, short_boore_atkinson(rng, (40,)), exact=all_three, outward=all_three)
+    yield from written(kind, short_boore_atkinson(rng, (15, 25, 70)), exact=few, outward=all_three)
+    yield from written(kind, short_boore_atkinson(rng, middles(BOORE_ATKINSON)), outward=all_three)
     yield from written(kind, short_boore_atkinson(rng, rows[:5]), exact=all_three, outward=all_three)
     yield from written(kind, short_boore_atkinson(rng, rows[5:10]), exact=few, outward=all_three)
     yield from written(kind, short_boore_atkinson(rng, rows[10:]), outward=all_three)
@@ -222,17 +294,16 @@ def formula_streams(rng):
 # ---------------------------------------------------------------------------
 
 def at_limits(rng):
-    """Yield scenarios at each limit and one step either side, at 0 and at the field's end."""
+    """Yield scenarios at each limit and one step either side, at 0 and at the field's end, and all kinds of period."""
     for model in (IDRISS, BOORE_ATKINSON):
-        for field, limits in zip(WIDE_FIELDS, (MAGNITUDE, DISTANCE, VELOCITY)):
+        for field, limits in WIDE_FIELDS.items():
             first, last = limits[model]
             for value in (first - 1, first, first + 1, last - 1, last, last + 1, 0, 32768 + first, FIELD_END):
                 if value >= 0:
                     yield within(rng, model, **{field: value})
         for code in (*range(12), 127, 128, 254, 255):
             yield within(rng, model, mechanism=code)
-        near = {tabled + step for tabled in PERIODS[IDRISS] for step in (-1, 0, 1)}
-        for period in sorted(near | {0, 1, 7, 70, 256 + 75, 32768 + 10, FIELD_END}):
+        for period in (0, *PERIODS[model], *untabled(model), *REFUSED_PERIODS, 2, 5, 256 + 75, 32768 + 75, 32768 + 70):
             yield within(rng, model, period=period)
     for model in (0, 1, 2, 3, 4, 9, 127, 128, 129, 254, 255):
         yield WHOLE[IDRISS]._replace(model=model)
@@ -298,7 +369,7 @@ def cuts():
 REFUSED = {
     1: bytes.fromhex('3703bc02e803024b00'), 2: bytes.fromhex('37011703e803024b00'),
     3: bytes.fromhex('3701bc025d44024b00'), 4: bytes.fromhex('0f02bc02e8030707'),
-    5: bytes.fromhex('0701bc02e803'), 6: bytes.fromhex('3701bc02e803024600'),
+    5: bytes.fromhex('0701bc02e803'), 6: bytes.fromhex('3701bc02e803020900'),
     7: bytes.fromhex('3701bc02e803024b'), 8: bytes.fromhex('7701bc02e803024b00'),
     9: bytes.fromhex('3601bc02e803024b00'), 11: bytes.fromhex('1702bc02e80309')}
 
@@ -376,9 +447,9 @@ def one_uniform(rng):
 def near_limits(rng):
     """Draw a scenario with a field at a limit of either model or one step beside it."""
     scenario = within(rng, rng.choice((IDRISS, BOORE_ATKINSON)))
-    field = rng.randrange(3)
-    limits = (MAGNITUDE, DISTANCE, VELOCITY)[field][rng.choice((IDRISS, BOORE_ATKINSON))]
-    return scenario._replace(**{WIDE_FIELDS[field]: max(rng.choice(limits) + rng.choice((-1, 0, 1)), 0)})
+    field = rng.choice([*WIDE_FIELDS])
+    limits = WIDE_FIELDS[field][rng.choice((IDRISS, BOORE_ATKINSON))]
+    return scenario._replace(**{field: max(rng.choice(limits) + rng.choice((-1, 0, 1)), 0)})
 
 
 def damaged(rng):
@@ -445,8 +516,9 @@ def fixed(rng):
     yield from written('next to the absent numbers', not_defaults())
     yield from written('limits', at_limits(rng))
     yield from written('beyond the hinge magnitudes', beyond_hinges())
-    yield from written('every period', crossed(rng))
-    yield from written('every period at the joints', joined(rng))
+    yield from written('every row, and between', crossed(rng))
+    yield from written('every row, and between, at the joints', joined(rng))
+    yield from written('between the rows', between_the_rows(rng))
     yield from written("Idriss's sigma", sigmas())
     yield from written('next to a threshold of p', thresholds(rng))
     yield from written('next to zero', (Scenario(*fields) for fields in NEXT_TO_ZERO))
@@ -479,6 +551,21 @@ def both_models():
     return b''.join(map(record, scenarios))
 
 
+def between_records():
+    """Return records of both models with periods between the rows; no number in them is drawn."""
+    scenarios = []
+    for turn, period in enumerate(untabled(IDRISS)):
+        magnitude = (600, 675, 676, 760)[turn % 4]
+        scenarios.append(Scenario(IDRISS, magnitude, 170 * turn, 4500 + 190 * turn, turn % 5, period))
+    for turn, period in enumerate(untabled(BOORE_ATKINSON)):
+        # Each branch of p, and of the slope.
+        magnitude, distance, velocity = ((760, 500, 1800), (675, 4500, 2500), (674, 10000, 5000), (550, 15000, 10000),
+                                         (676, 0, 3000), (650, 2500, 7600), (720, 6500, 2000))[turn % 7]
+        code = MECHANISM[BOORE_ATKINSON][turn % 5]
+        scenarios.append(Scenario(BOORE_ATKINSON, magnitude, distance + turn, velocity, code, period))
+    return b''.join(map(record, scenarios))
+
+
 def sample():
     """Return the records of one earthquake, M 7.00 and reverse at 10 km on 760 m/s, at some periods by both models."""
     return b''.join(record(Scenario(model, 700, 1000, 7600, 2, period))
@@ -493,6 +580,7 @@ def stored():
         'empty': b'',
         'sample': sample(),
         'both_models': both_models(),
+        'between_rows': between_records(),
         **{f'refusal_{number}': few + last for number, last in REFUSED.items()},
         'longer_than_4096': filled(TAKEN) + filled(1000),
         'cut_at_4096': filled(TAKEN - 5) + sized(11, 1) + filled(100),

@@ -1,28 +1,35 @@
-"""Check the four ways of answering against document 01: from fields and from a record, each in whole units and doubles.
+"""Check the four ways of answering against documents 01 and 02: from fields and a record, in whole units and doubles.
 
 Run as: python3 tests/test_answers.py ASK [COUNT] [SEED]
 
-ASK, a host's program, reads one question from each line of its input and prints one line for each, `E` and four ends or `R` and the
-number; a double is printed as the whole number that it equals:
+ASK, a host's program, reads one question from each line of its input and prints one line for each, `E` and four ends
+or `R` and the number; a double is printed as the whole number that it equals:
 
     answer MODEL MAGNITUDE DISTANCE VELOCITY MECHANISM PERIOD, and doubles with the same
     answer_record BYTES, and doubles_record with the same
 
-COUNT is how many scenarios and how many byte strings are drawn, 4,000 of each unless given.
+COUNT is how many scenarios and how many byte strings are drawn, 4,000 of each unless given, besides every kind of
+period.
 """
 
 import random
 import sys
 
 from ask import ask
-from records import BOORE_ATKINSON, IDRISS, read, record, refusal
-from streams import Stream, damaged, near_limits, one_uniform, sized, uniform, within
+from records import BOORE_ATKINSON, IDRISS, PERIODS, read, record, refusal
+from streams import REFUSED_PERIODS, Stream, damaged, near_limits, one_uniform, sized, uniform, untabled, within
 from test_enclosures import Tally, line_fault
 
 COUNT = 4000
 SEED = 19990921
 LONGEST = 200
 FAULTS_SHOWN = 20
+
+
+def of_each_period(rng):
+    """Return a scenario of each row and between any two, of period 0 and of periods that are turned away."""
+    return [within(rng, model, period=period) for model in (IDRISS, BOORE_ATKINSON)
+            for period in (0, *PERIODS[model], *untabled(model), *REFUSED_PERIODS)]
 
 
 def draw_scenario(rng):
@@ -63,11 +70,11 @@ def due_for_bytes(data):
 def questions(rng, count):
     """Return pairs of questions, in whole units and in doubles, each pair with what is asked and what is due."""
     asked = []
-    for _ in range(count):
-        scenario = draw_scenario(rng)
+    fixed = of_each_period(rng)
+    for scenario in fixed + [draw_scenario(rng) for _ in range(count)]:
         words = ' '.join(map(str, scenario))
         asked.append((f'answer {words}', f'doubles {words}', record(scenario), due_for_scenario(scenario)))
-    for data in [b'', *(draw_bytes(rng)[:LONGEST] for _ in range(count))]:
+    for data in [b'', *map(record, fixed), *(draw_bytes(rng)[:LONGEST] for _ in range(count))]:
         words = data.hex() or '-'
         asked.append((f'answer_record {words}', f'doubles_record {words}', data, due_for_bytes(data)))
     return asked
@@ -89,7 +96,8 @@ def main(words):
             faults.append(f'{doubles}: {same}, not {ends}')
     for fault in faults[:FAULTS_SHOWN]:
         print(fault)
-    print(f'answers: seed {seed}, {len(asked)} in whole units and in doubles ({refused} refused), {len(faults)} faults')
+    print(f'answers: seed {seed}, {len(asked)} in whole units and in doubles ({refused} refused), '
+          f'{len(faults)} faults, greatest widths: {tally.greatest_widths()}')
     return 1 if faults or tally.faults else 0
 
 

@@ -4,9 +4,10 @@ Run as: python3 tests/test_enclosures.py PROGRAM [COUNT] [SEED]
     or: python3 tests/test_enclosures.py --store PROGRAM
 
 PROGRAM reads records from standard input and prints `enclosures`, a line for each record and `end` with their count.
-COUNT is how many records are drawn besides the fixed ones, 20,000 unless given.  Each line has to have the exact
-format, and the refusal of records.py or ends that enclose the true values of models.py and are not too far apart; at
-some scenarios the ends have to meet the formula's pairs of formula_pairs.py, too.
+COUNT is how many records are drawn besides the fixed ones, 20,000 unless given; with 100,000 and more, every period
+from 10 to 10000 is asked of both models, too.  Each line has to have the exact format, and the refusal of records.py or
+ends that enclose the true values of models.py and are not too far apart; at some scenarios the ends have to meet the
+formula's pairs of formula_pairs.py, too.
 
 The stored streams are NAME.stdin with NAME.stdout beside this file, in the folder streams or in the one that the
 environment variable STREAMS names.  --store writes them, from an output that passes the same checks.
@@ -26,12 +27,14 @@ from functools import lru_cache
 import formula_pairs
 import models
 import streams
-from exact import Pair, meets, stated
+from exact import Pair, meets
 from formula_pairs import EXACT, OUTWARD
-from records import BOORE_ATKINSON, IDRISS, PERIODS, read, row
+from records import BOORE_ATKINSON, IDRISS, PERIOD, PERIODS, between_rows, read
 from streams import TAKEN, Stream
 
 COUNT = 20000
+# With so many records drawn, every period is asked for.
+MANY = 100000
 SEED = 19940117
 FAULTS_SHOWN = 20
 SECONDS = 60
@@ -40,8 +43,12 @@ STREAMS = os.environ.get('STREAMS') or os.path.join(os.path.dirname(os.path.absp
 
 # "One unit is 10^-9 of a natural logarithm."
 UNITS = 10 ** 9
-# How many units the two ends may be apart: of the median and of sigma.
+# How many units the two ends may be apart, of the median and of sigma: at period 0 and at a tabled one, demand 3 and
+# "Its two ends are equal."
 WIDEST = {IDRISS: (100, 10), BOORE_ATKINSON: (2000, 0)}
+# Between the rows, W-201: "twice the tabled widths for the median and 20 units for sigma".
+SIGMA_BETWEEN = 20
+WIDEST_BETWEEN = {model: (2 * median, SIGMA_BETWEEN) for model, (median, _) in WIDEST.items()}
 NAMES = {IDRISS: 'Idriss', BOORE_ATKINSON: 'Boore-Atkinson'}
 PARTS = ('median', 'sigma')
 
@@ -70,11 +77,14 @@ def refused(number):
 
 
 PAPER = (
-    ('For the bytes 37 01 BC 02 E8 03 02 46 00', '3701bc02e803024600', ('enclosures', '1 R 6', 'end 1')),
+    # Document 01 has `1 R 6` for these; W-201: "periods 40 and 70 of the examples are now answered in both models".
+    ('For the bytes 37 01 BC 02 E8 03 02 46 00', '3701bc02e803024600', ('enclosures', '1 E * * * *', 'end 1')),
     ('empty input prints', '', ('enclosures', 'end 0')),
     ('bytes 37 01 BC 02 E8 03 02 4B 00', '3701bc02e803024b00', ('enclosures', '1 E * * * *', 'end 1')),
-    ('both of them', '3701bc02e803024b003701bc02e803024600', ('enclosures', '1 E * * * *', '2 R 6', 'end 2')),
-    ('It stops after an R', '3701bc02e8030246003701bc02e803024b00', ('enclosures', '1 R 6', 'end 1')),
+    ('both of them', '3701bc02e803024b003701bc02e803024600', ('enclosures', '1 E * * * *', '2 E * * * *', 'end 2')),
+    ('0.07 s, and 9 thousandths', '3701bc02e8030246003701bc02e803020900',
+     ('enclosures', '1 E * * * *', '2 R 6', 'end 2')),
+    ('It stops after an R', '3701bc02e8030209003701bc02e803024b00', ('enclosures', '1 R 6', 'end 1')),
     ('20001 gives 4', '3f01bc02e803214e024b00', refused(4)),
     ('magnitude 449 in Idriss', '3701c101e803024b00', refused(2)),
     ('magnitude 450 in Idriss', '3701c201e803024b00', E1),
@@ -89,9 +99,29 @@ PAPER = (
     ('distance 19999 in Boore-Atkinson', '3702bc021f4e024b00', E1),
     ('distance 20000 in Boore-Atkinson', '3702bc02204e024b00', refused(3)),
     ('period 40 in Idriss', '3701bc02e803022800', E1),
-    ('period 40 in Boore-Atkinson', '3702bc02e803022800', refused(6)),
-    ('period 70 in Idriss', '3701bc02e803024600', refused(6)),
-    ('period 70 in Boore-Atkinson', '3702bc02e803024600', refused(6)),
+    ('period 40 in Boore-Atkinson', '3702bc02e803022800', E1),
+    ('period 70 in Idriss', '3701bc02e803024600', E1),
+    ('period 70 in Boore-Atkinson', '3702bc02e803024600', E1),
+    # "Refusal 6 is left with 1 to 9 and above 10000".
+    ('period 1 in Idriss', '3701bc02e803020100', refused(6)),
+    ('period 1 in Boore-Atkinson', '3702bc02e803020100', refused(6)),
+    ('period 9 in Idriss', '3701bc02e803020900', refused(6)),
+    ('period 9 in Boore-Atkinson', '3702bc02e803020900', refused(6)),
+    ('period 10 in Idriss', '3701bc02e803020a00', E1),
+    ('period 10 in Boore-Atkinson', '3702bc02e803020a00', E1),
+    ('period 11 in Idriss', '3701bc02e803020b00', E1),
+    ('period 11 in Boore-Atkinson', '3702bc02e803020b00', E1),
+    ('period 9999 in Idriss', '3701bc02e803020f27', E1),
+    ('period 9999 in Boore-Atkinson', '3702bc02e803020f27', E1),
+    ('period 10000 in Idriss', '3701bc02e803021027', E1),
+    ('period 10000 in Boore-Atkinson', '3702bc02e803021027', E1),
+    ('period 10001 in Idriss', '3701bc02e803021127', refused(6)),
+    ('period 10001 in Boore-Atkinson', '3702bc02e803021127', refused(6)),
+    ('period 65535 in Idriss', '3701bc02e80302ffff', refused(6)),
+    ('period 65535 in Boore-Atkinson', '3702bc02e80302ffff', refused(6)),
+    ('code 5 in Idriss, and period 9', '3701bc02e803050900', refused(5)),
+    ('period 0 in Idriss', '1701bc02e80302', E1),
+    ('period 0 in Boore-Atkinson', '1702bc02e80302', E1),
     ('code 9 in Idriss, not written', '2701bc02e8034b00', refused(5)),
     ('code 9 in Idriss, written', '3701bc02e803094b00', refused(11)),
     ('code 9 in Boore-Atkinson', '0702bc02e803', E1),
@@ -128,6 +158,34 @@ WORKED_OUT = (
     ('0f025802581b0807', '-2.803534464746532', '0.566'),
     # Boore-Atkinson, M 6.50, 40 km, 250 m/s, code 2, 1 s; p is between
     ('3f028a02a00fc40902e803', '-2.147578578335000', '0.647'),
+    # Between the rows: Idriss, M 6.75, 0 km, 1200 m/s, code 0, 0.011 s
+    ('3f01a3020000e02e000b00', '-0.731212075806976', '0.670149370425610'),
+    # Idriss, M 6.75, 25 km, 450 m/s, code 3, 8.75 s
+    ('3f01a302c4099411032e22', '-4.576356372924163', '0.813451430103383'),
+    # Idriss, M 6.76, 5 km, 560 m/s, code 1, 0.045 s
+    ('3f01a402f401e015012d00', '-0.498686716858573', '0.669549370425610'),
+    # Idriss, M 6.76, 175 km, 2000 m/s, code 4, 9.999 s
+    ('3f01a4025c44204e040f27', '-7.367359939781978', '0.812851430103383'),
+    # Boore-Atkinson, M 7.00, 10 km, 300 m/s, code 0, 0.225 s; p is above ln 0.09
+    ('3f02bc02e803b80b00e100', '-0.463683104226004', '0.593888658937931'),
+    # Boore-Atkinson, M 6.00, 70 km, 180 m/s, code 9, 0.04 s; p is below ln 0.03
+    ('2f025802581b08072800', '-2.720994686847145', '0.584194878740889'),
+    # Boore-Atkinson, M 6.50, 40 km, 250 m/s, code 2, 1.25 s; p is between
+    ('3f028a02a00fc40902e204', '-2.439071997080794', '0.664610870822822'),
+    # Boore-Atkinson, M 7.54, 60.65 km, 250 m/s, code 0, 0.049 s; p is 11 units from ln 0.09
+    ('3f02f202b117c409003100', '-1.885125437285322', '0.588485861352859'),
+    # Boore-Atkinson, M 5.50, 150 km, 1000 m/s, code 3, 6.25 s
+    ('3f022602983a1027036a18', '-8.900125220846039', '0.767664607668167'),
+)
+
+# True values in units, rounded to four decimals; a number without decimals is exact.  M 7.00, 10 km, 760 m/s, code 2.
+TRUE_UNITS = (
+    # Idriss, 0.07 s
+    ('3701bc02e803024600', '-747978464.4812', '666925898.7074'),
+    # Boore-Atkinson, 0.04 s, 0.07 s and 0.011 s
+    ('3702bc02e803022800', '-1313794197.8390', '583321220.3301'),
+    ('3702bc02e803024600', '-1069227804.0903', None),
+    ('3702bc02e803020b00', None, '566000000'),
 )
 
 
@@ -149,12 +207,11 @@ def outcomes(data):
 def true_values(scenario):
     """Return pairs around the true median and the true sigma of an accepted scenario."""
     model, magnitude, distance, velocity, mechanism, period = scenario
-    number = row(model, period)
     if model == IDRISS:
-        median = models.idriss_median(models.table_of(magnitude), number, magnitude, distance, velocity, mechanism)
+        median = models.idriss_median_at(models.table_of(magnitude), period, magnitude, distance, velocity, mechanism)
         return median, models.idriss_sigma(period, magnitude)
-    median = models.boore_atkinson_median(number, magnitude, distance, velocity, mechanism)
-    return median, stated(models.boore_atkinson_sigma(number, mechanism))
+    median = models.boore_atkinson_median_at(period, magnitude, distance, velocity, mechanism)
+    return median, models.boore_atkinson_sigma_at(period, mechanism)
 
 
 @lru_cache(maxsize=REMEMBERED)
@@ -162,6 +219,12 @@ def narrowest_ends(scenario):
     """Return, for median and sigma, the greatest low end and the least high end that enclose the true value."""
     # The ends are whole, so they enclose the true value if they enclose it rounded outward to whole units.
     return tuple((math.floor(true.low * UNITS), math.ceil(true.high * UNITS)) for true in true_values(scenario))
+
+
+def widest_ends(scenario):
+    """Return how many units the two ends of an accepted scenario's median and of its sigma may be apart."""
+    between = between_rows(scenario.model, scenario.period)
+    return (WIDEST_BETWEEN if between else WIDEST)[scenario.model]
 
 
 # ---------------------------------------------------------------------------
@@ -212,7 +275,7 @@ class Tally:
         self.processes = 0
         self.records = 0
         self.outcomes = Counter()
-        self.rows = set()
+        self.periods = set()
         self.widths = Counter()
 
     def full(self):
@@ -226,10 +289,16 @@ class Tally:
 
     def answer(self, scenario, ends):
         """Note an answered scenario, and how far apart its ends are."""
-        self.rows.add((scenario.model, scenario.period))
+        model, period = scenario.model, scenario.period
+        self.periods.add((model, period))
+        place = ' between rows' if between_rows(model, period) else ''
         for part, width in zip(PARTS, (ends[1] - ends[0], ends[3] - ends[2])):
-            name = f'{NAMES[scenario.model]} {part}'
+            name = f'{NAMES[model]} {part}{place}'
             self.widths[name] = max(self.widths[name], width)
+
+    def greatest_widths(self):
+        """Return the greatest widths that have been seen, as a text."""
+        return ', '.join(f'{name} {width}' for name, width in sorted(self.widths.items())) or 'none'
 
 
 def answer_fault(tally, stream, scenario, line):
@@ -238,7 +307,7 @@ def answer_fault(tally, stream, scenario, line):
     if ends is None:
         return 'E and four ends are due'
     tally.answer(scenario, ends)
-    both = zip(PARTS, WIDEST[scenario.model], (ends[:2], ends[2:]), narrowest_ends(scenario))
+    both = zip(PARTS, widest_ends(scenario), (ends[:2], ends[2:]), narrowest_ends(scenario))
     for part, widest, two, narrowest in both:
         wrong = pair_fault(part, widest, two, narrowest)
         if wrong:
@@ -348,10 +417,23 @@ def first_ends(output):
     return read_ends(lines[1]) if len(lines) > 1 else None
 
 
+def check_true_units(tally, program):
+    """Check that whole ends enclose the typed true values: also the whole units next to them."""
+    for digits, *values in TRUE_UNITS:
+        stream = Stream('true values', bytes.fromhex(digits), E1)
+        ends = first_ends(ask(tally, program, stream))
+        for at, value in enumerate(values):
+            if ends and value:
+                low, high = ends[2 * at:2 * at + 2]
+                if not (low <= math.floor(Fraction(value)) and math.ceil(Fraction(value)) <= high):
+                    tally.fault(stream, f'the {PARTS[at]} is {value} units, which {low} and {high} do not enclose')
+
+
 def check_typed(tally, program):
     """Check the streams that are typed in by hand, and the answers that are worked out or have to be alike."""
     for words, digits, lines in PAPER:
         ask(tally, program, Stream(f'document 01, {words}', bytes.fromhex(digits), lines))
+    check_true_units(tally, program)
     for digits, *values in WORKED_OUT:
         stream = Stream('worked out', bytes.fromhex(digits), E1)
         ends = first_ends(ask(tally, program, stream))
@@ -425,14 +507,15 @@ def store(program):
 
 def forget():
     """Drop remembered values, so that a longer run takes no more memory."""
-    for remembered in (models.real_ln, models.real_root, models.slope):
+    for remembered in (models.real_ln, models.real_root, models.slope, models.part_of_the_way):
         remembered.cache_clear()
 
 
 def check_sums(tally):
     """Check that sums and pairs that are rounded outward contain the exact ones."""
     rng = random.Random(SEED)
-    scenarios = [*streams.short_idriss(rng)][::6] + [*streams.short_boore_atkinson(rng, (0, 10))]
+    scenarios = [*streams.short_idriss(rng, PERIODS[IDRISS][::6]), *streams.short_idriss(rng, (11, 70, 9999)),
+                 *streams.short_boore_atkinson(rng, (0, 40))]
     for what, holds in formula_pairs.outward_checks(scenarios, (1, 2)):
         if not holds:
             tally.faults.append(f'formula_pairs.py: {what}: the pair that is rounded outward is wrong')
@@ -448,24 +531,30 @@ def check_streams(tally, program, all_streams):
             forget()
 
 
-def check_seen(tally):
-    """Check that all kinds of outcome and all rows have been seen."""
+def wanted_periods(every):
+    """Return the models and periods that have to be answered: the rows and some between, or every accepted period."""
+    for model in (IDRISS, BOORE_ATKINSON):
+        between = range(PERIOD[0], PERIOD[1] + 1) if every else streams.untabled(model)
+        yield from ((model, period) for period in (0, *PERIODS[model], *between))
+
+
+def check_seen(tally, every=False):
+    """Check that all kinds of outcome have been seen, and answers at all rows and between any two neighbours."""
     wanted = {'E', *(('R', number) for number in (1, 2, 3, 4, 5, 6, 7, 8, 9, 11))}
-    rows = {(model, period) for model in (IDRISS, BOORE_ATKINSON) for period in (0, *PERIODS[model])}
     if set(tally.outcomes) != wanted:
         tally.faults.append(f'outcomes missing or too many: {set(tally.outcomes) ^ wanted}')
-    if tally.rows != rows:
-        tally.faults.append(f'periods missing or too many: {sorted(tally.rows ^ rows)}')
+    missing = set(wanted_periods(every)) - tally.periods
+    if missing:
+        tally.faults.append(f'periods missing: {sorted(missing)[:FAULTS_SHOWN]}')
 
 
 def report(tally, words):
     """Print the first faults and a summary; return the exit status."""
     for fault in tally.faults[:FAULTS_SHOWN]:
         print(f'FAILED {fault}')
-    widths = ', '.join(f'{name} {width}' for name, width in sorted(tally.widths.items()))
     refusals = sum(many for outcome, many in tally.outcomes.items() if outcome != 'E')
     print(f'enclosures: {words}, {tally.records} records ({refusals} refused) in {tally.processes} processes, '
-          f'{len(tally.faults)} faults, greatest widths: {widths or "none"}')
+          f'{len(tally.faults)} faults, greatest widths: {tally.greatest_widths()}')
     return 1 if tally.faults else 0
 
 
@@ -475,11 +564,13 @@ def run(program, count, seed):
     check_sums(tally)
     check_typed(tally, program)
     check_stored(tally, program)
-    rng = random.Random(seed)
+    rng, every = random.Random(seed), count >= MANY
     check_streams(tally, program, streams.fixed(rng))
+    if every:
+        check_streams(tally, program, streams.written('every period', streams.every_period(rng)))
     check_streams(tally, program, streams.drawn(rng, count))
     if not tally.faults:
-        check_seen(tally)
+        check_seen(tally, every)
     return report(tally, f'seed {seed}, {count} drawn')
 
 

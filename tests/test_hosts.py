@@ -1,15 +1,17 @@
-"""Check the hosts in C, Rust and Python, each through its safe wrapper, against document 01 and the papers.
+"""Check the hosts in C, Rust and Python, each through its safe wrapper, against documents 01 and 02 and the papers.
 
 Run as: python3 tests/test_hosts.py C_ASK RUST_ASK PYTHON_ASK C_SPECTRUM RUST_SPECTRUM PYTHON_SPECTRUM [COUNT] [SEED]
 
 An ASK answers the questions of test_records.py (other than place) and of test_answers.py, a line each, and
 
-    words NUMBER -> what the number of a refusal stands for
-    null         -> the numbers of reading, answering from a record in both ways, and writing, with no bytes; then once
-                    more with no bytes of another kind
+    words NUMBER            -> what the number of a refusal stands for
+    rows_words MODEL PERIOD -> the period, and the row or the two rows that an answer there rests on; or the refusal
+    null                    -> the numbers of reading, answering from a record in both ways, and writing, with no bytes;
+                               then once more with no bytes of another kind
 
-A SPECTRUM prints the table of one earthquake by both models.  The three of a kind have to print the same.  PYTHON_ASK
-stands beside the wrapper fusnoch.py.  COUNT is how many byte strings are answered from, 10,000 unless given.
+A SPECTRUM prints the table of one earthquake by both models, and what the answers between the rows rest on.  The three
+of a kind have to print the same.  PYTHON_ASK stands beside the wrapper fusnoch.py.  COUNT is how many byte strings are
+answered from, 10,000 unless given.
 """
 
 import importlib
@@ -24,7 +26,7 @@ import streams
 import test_answers
 import test_records
 from ask import ask, run
-from records import BOORE_ATKINSON, IDRISS, PERIODS, Scenario, record, refusal
+from records import BOORE_ATKINSON, IDRISS, PERIODS, Scenario, record, rows
 from streams import WHOLE, Stream
 from test_enclosures import Tally, check_seen, line_fault
 
@@ -32,6 +34,8 @@ COUNT = 10000
 SEED = 19890118
 # How many questions of the other tests are drawn.
 DRAWN = 3000
+# Rows are asked for at every period up to the first number, and beyond it at the multiples of the second, up to 65535.
+NEAR, FAR = 10010, 257
 FAULTS_SHOWN = 20
 HOSTS = ('C', 'Rust', 'Python')
 # Python's own memory is not what is looked at.
@@ -40,14 +44,14 @@ VALGRIND = ('valgrind', '--error-exitcode=99', '--leak-check=full', '-q')
 # A number of bytes that does not fit 16 bits; its low 16 bits are 3, too few for a record.
 MANY = 65536 + 3
 
-# 'What is turned away', the word and the condition.
+# 'What is turned away', the word and the condition; that of the period as W-201 leaves it.
 WORDS = (
     'model: neither 1 nor 2',
     "magnitude: beyond the model's limits",
     "distance: beyond the model's limits",
     "velocity: beyond the model's limits",
     'mechanism: not a code of the model',
-    'period: neither 0 nor tabled for the model',
+    'period: neither 0 nor from 10 to 10000',
     'cut short: no map byte, or fewer bytes than the map calls for',
     'spare bit: bit 6 or 7 stands',
     'wanting: bit 0, 1 or 2 is clear',
@@ -56,8 +60,35 @@ WORDS = (
     'page full: lent bytes shorter than the record',
 )
 
+# What the rows of some periods are called, typed in by hand.
+ROWS_WORDS = (
+    (1, 70, '0.070 s: between 0.050 and 0.075'),
+    (2, 70, '0.070 s: between 0.050 and 0.075'),
+    (1, 75, '0.075 s: the row 0.075'),
+    (2, 75, '0.075 s: the row 0.075'),
+    (1, 40, '0.040 s: the row 0.040'),
+    (2, 40, '0.040 s: between 0.030 and 0.050'),
+    (1, 0, 'PGA: the row 0.010'),
+    (2, 0, 'PGA: the row PGA'),
+    (1, 10, '0.010 s: the row 0.010'),
+    (2, 11, '0.011 s: between 0.010 and 0.020'),
+    (1, 999, '0.999 s: between 0.750 and 1.000'),
+    (2, 1001, '1.001 s: between 1.000 and 1.500'),
+    (1, 9999, '9.999 s: between 7.500 and 10.000'),
+    (2, 10000, '10.000 s: the row 10.000'),
+    (1, 9, 'refusal 6, period: neither 0 nor from 10 to 10000'),
+    (2, 10001, 'refusal 6, period: neither 0 nor from 10 to 10000'),
+    (2, 65535, 'refusal 6, period: neither 0 nor from 10 to 10000'),
+    (0, 75, 'refusal 1, model: neither 1 nor 2'),
+    (3, 9, 'refusal 1, model: neither 1 nor 2'),
+    (255, 0, 'refusal 1, model: neither 1 nor 2'),
+)
+
 # The earthquake of the table: M 7.00, strike-slip, 760 m/s; each model has its own distance.
-SPECTRUM = {IDRISS: Scenario(IDRISS, 700, 1044, 7600, 0, 0), BOORE_ATKINSON: Scenario(BOORE_ATKINSON, 700, 1000, 7600, 0, 0)}
+SPECTRUM = {IDRISS: Scenario(IDRISS, 700, 1044, 7600, 0, 0),
+            BOORE_ATKINSON: Scenario(BOORE_ATKINSON, 700, 1000, 7600, 0, 0)}
+# Its periods: 0, those that Idriss has a row for, and 0.07 s, for which no model has one.
+SPECTRUM_PERIODS = sorted((0, *PERIODS[IDRISS], 70))
 COLUMNS = '  median low  median high g, rounded  sigma low sigma high'
 HEADING = f"""\
 Spectrum, 5 percent damped: M 7.00, strike-slip, V_S30 760.0 m/s
@@ -67,6 +98,13 @@ g, rounded: exp of the middle of the median's ends, to four digits, for reading;
 
          | Idriss 2014                                                | Boore and Atkinson 2008
 period s | {COLUMNS} | {COLUMNS}
+"""
+# What is printed after the table, typed in by hand: one line for each answer between the rows.
+BETWEEN = """
+Between rows: answered from the two rows named, by the logarithm of the period
+Boore and Atkinson 2008, 0.040 s: between 0.030 and 0.050
+Idriss 2014, 0.070 s: between 0.050 and 0.075
+Boore and Atkinson 2008, 0.070 s: between 0.050 and 0.075
 """
 
 
@@ -107,6 +145,43 @@ def about_records(lines):
         yield Question(line, test_records.answer(line))
 
 
+def refusal_words(number):
+    """Return the words of a refusal with its number."""
+    return f'refusal {number}, {WORDS[number - 1]}'
+
+
+def seconds(period):
+    """Return a period in seconds as the hosts print it."""
+    return f'{period // 1000}.{period % 1000:03}' if period else 'PGA'
+
+
+def rows_words(model, period):
+    """Return what the hosts print for the rows of a period."""
+    letter, *numbers = rows(model, period)
+    if letter == 'R':
+        return refusal_words(*numbers)
+    name = f'{seconds(period)} s' if period else seconds(period)
+    lower, upper = map(seconds, numbers)
+    return f'{name}: the row {lower}' if lower == upper else f'{name}: between {lower} and {upper}'
+
+
+def is_for_hosts(line):
+    """Say whether a question of test_records.py is for all hosts: no place, and not the rows of every far period."""
+    name, *words = line.split(' ')
+    if name == 'rows':
+        return int(words[1]) <= NEAR or int(words[1]) % FAR == 0
+    return name != 'place'
+
+
+def about_rows_words():
+    """Yield questions for the words of the rows: those typed in, all periods of both models, and some of others."""
+    for model, period, words in ROWS_WORDS:
+        yield Question(f'rows_words {model} {period}', words)
+    some = [(model, period) for model in range(256) for period in (0, 9, 10, 70)]
+    for model, period in some + [(model, period) for model in SPECTRUM for period in range(NEAR + 1)]:
+        yield Question(f'rows_words {model} {period}', rows_words(model, period))
+
+
 def shortest():
     """Return no bytes, and each byte alone."""
     return [b'', *(bytes([byte]) for byte in range(256))]
@@ -131,7 +206,10 @@ def small_questions():
              *about_records(question.line for question in test_records.writing())]
     for name in ('answer_record', 'doubles_record'):
         asked += about_bytes(name, cut)
-    asked += about_scenarios([*SPECTRUM.values(), *streams.WRONG.values()])
+    asked += about_scenarios([*SPECTRUM.values(), *streams.WRONG.values(),
+                              *(SPECTRUM[model]._replace(period=70) for model in SPECTRUM)])
+    for model, period, words in ROWS_WORDS:
+        asked += [Question(f'rows_words {model} {period}', words), *about_records([f'rows {model} {period}'])]
     asked += [Question(f'words {number}', words) for number, words in enumerate(WORDS, 1)]
     asked += [Question(f'words {number}', 'not a refusal') for number in (0, 13, 255)]
     return asked + [Question('null', '7 7 7 12 7 7 7 12')]
@@ -146,7 +224,8 @@ def all_questions(rng, count):
     for whole, doubles, _, due in test_answers.questions(rng, DRAWN):
         asked += [Question(line, line_or_scenario(due)) for line in (whole, doubles)]
     of_records = [question.line for question in test_records.questions(DRAWN, rng.randrange(2 ** 32))]
-    asked += about_records(line for line in of_records if not line.startswith('place '))
+    asked += about_records(filter(is_for_hosts, of_records))
+    asked += about_rows_words()
     asked += about_records(f'read {data.hex() or "-"}' for data in shortest() + longest())
     asked += about_records(test_records.text('write', *scenario, bytes(MANY).hex()) for scenario in WHOLE.values())
     return asked
@@ -223,10 +302,6 @@ def g_fault(text, low, high):
 
 def cell_fault(answers, scenario, cell):
     """Return what is wrong with the part of a model in a line, or None."""
-    number = refusal(scenario)
-    if number:
-        due = f'refusal {number}, {WORDS[number - 1]}'
-        return None if cell == due else f'{due} is due'
     found = re.fullmatch(r' *(-?[0-9]+) +(-?[0-9]+) +([0-9.]+) +([0-9]+) +([0-9]+)', cell)
     if not found:
         return 'four ends and an acceleration are due'
@@ -241,12 +316,14 @@ def spectrum_faults(answers, text):
     if not text.startswith(HEADING):
         yield f'the heading is not the one due: {text[:len(HEADING)]!r}'
         return
-    periods = (0, *PERIODS[IDRISS])
-    *lines, after = text[len(HEADING):].split('\n')
-    if len(lines) != len(periods) or after:
-        yield f'{len(periods)} lines are due, not {len(lines)}, and {after!r} after them'
-    for period, line in zip(periods, lines):
-        name = f'{period // 1000}.{period % 1000:03}' if period else 'PGA'
+    if not text.endswith(BETWEEN):
+        yield f'the lines about what is between the rows are not those due: {text[-len(BETWEEN):]!r}'
+        return
+    *lines, after = text[len(HEADING):-len(BETWEEN)].split('\n')
+    if len(lines) != len(SPECTRUM_PERIODS) or after:
+        yield f'{len(SPECTRUM_PERIODS)} lines are due, not {len(lines)}, and {after!r} after them'
+    for period, line in zip(SPECTRUM_PERIODS, lines):
+        name = seconds(period)
         # 8 columns for the period and 58 for the first model.
         cells = {IDRISS: line[11:69], BOORE_ATKINSON: line[72:]}
         if line != f'{name:>8} | {cells[IDRISS]} | {cells[BOORE_ATKINSON]}':
@@ -291,9 +368,38 @@ def unfit_fields(fusnoch):
                 yield 'TypeError', fusnoch.Scenario, *scenario._replace(**{name: wrong})
 
 
+def unfit_rows(fusnoch):
+    """Yield calls for rows with a model or a period that does not fit its field, or is no number."""
+    for given in ((1, 70), (2, 75)):
+        for at, size in ((0, 1), (1, 2)):
+            number = given[at]
+            for wrong in (number + 256 ** size, number - 256 ** size, number + 2 ** 64, -1, 256 ** size):
+                yield 'ValueError', fusnoch.rows, *given[:at], wrong, *given[at + 1:]
+            for wrong in (float(number), Decimal(number), str(number), bytes([number]), None, True, False):
+                yield 'TypeError', fusnoch.rows, *given[:at], wrong, *given[at + 1:]
+
+
+def rows_faults(fusnoch):
+    """Yield what is wrong with the rows that Python's wrapper gives: a named tuple, or a refusal."""
+    for model, period, *_ in ROWS_WORDS:
+        letter, *numbers = rows(model, period)
+        try:
+            given = fusnoch.rows(model, period)
+            got = ['T', isinstance(given, tuple), type(given).__name__, *given, given.lower, given.upper]
+        except fusnoch.Refused as refused:
+            got = ['R', refused.number, refused.words, str(refused)]
+        if letter == 'T':
+            due = ['T', True, 'Rows', *numbers, *numbers]
+        else:
+            due = ['R', *numbers, WORDS[numbers[0] - 1], refusal_words(*numbers)]
+        if got != due:
+            yield f'rows({model}, {period}): {got}, {due} is due'
+
+
 def python_calls(fusnoch):
     """Yield what is due, a function of Python's wrapper and its arguments."""
     yield from unfit_fields(fusnoch)
+    yield from unfit_rows(fusnoch)
     whole = WHOLE[IDRISS]
     scenario = fusnoch.Scenario(*whole)
     for function in (fusnoch.read, fusnoch.answer_record, fusnoch.answer_record_in_doubles):
@@ -307,11 +413,14 @@ def python_calls(fusnoch):
         yield (scenario, b'rest'), fusnoch.read, kind(record(whole) + b'rest')
     for one in WHOLE.values():
         yield record(one), fusnoch.record, fusnoch.Scenario(*one)
-    yield 'Refused', fusnoch.record, fusnoch.Scenario(*whole._replace(period=70))
+    for period in streams.REFUSED_PERIODS:
+        yield 'Refused', fusnoch.record, fusnoch.Scenario(*whole._replace(period=period))
+    for one in (whole._replace(period=70), WHOLE[BOORE_ATKINSON]._replace(period=40)):
+        yield record(one), fusnoch.record, fusnoch.Scenario(*one)
 
 
 def zeros_faults(fusnoch):
-    """Yield what the library's own reading and writing hand back with a refusal besides its number."""
+    """Yield what the library's own reading, writing and rows hand back with a refusal besides its number."""
     library = fusnoch.LIBRARY
     writing = library.fusnoch_write(fusnoch.c_scenario(fusnoch.Scenario(*WHOLE[IDRISS])), None, 0)
     if (writing.number, writing.length) != (12, 0):
@@ -321,6 +430,11 @@ def zeros_faults(fusnoch):
         others = [reading.length, *(getattr(reading.scenario, name) for name, _ in streams.FIELDS)]
         if reading.number != number or any(others):
             yield f'fusnoch_read: {data.hex()}: {reading.number}, {others}: {number} and zeros are due'
+    for model, period, number in ((0, 75, 1), (255, 9, 1), (1, 9, 6), (2, 10001, 6)):
+        found = library.fusnoch_rows(model, period)
+        others = [getattr(found, name) for name, *_ in found._fields_ if name != 'number']
+        if found.number != number or any(others):
+            yield f'fusnoch_rows: {model}, {period}: {found.number}, {others}: {number} and zeros are due'
 
 
 def page_full_fault(fusnoch):
@@ -331,7 +445,7 @@ def page_full_fault(fusnoch):
     except fusnoch.Refused as refused:
         # The caller can go on with the lent bytes.
         lent.extend(b'er')
-        if (refused.number, refused.words, str(refused)) == (12, WORDS[11], f'refusal 12, {WORDS[11]}'):
+        if (refused.number, refused.words, str(refused)) == (12, WORDS[11], refusal_words(12)):
             return None if lent == b'shorter' else f'{lent} is left'
     return 'page full is not refused as it should be'
 
@@ -339,6 +453,7 @@ def page_full_fault(fusnoch):
 def python_faults(fusnoch):
     """Yield the faults of Python's wrapper where no types see to the caller's mistakes."""
     yield from zeros_faults(fusnoch)
+    yield from rows_faults(fusnoch)
     for due, function, *given in python_calls(fusnoch):
         got = raised(function, *given)
         if got != due:
@@ -377,7 +492,8 @@ def main(words):
     for fault in faults[:FAULTS_SHOWN]:
         print(f'FAILED {fault}')
     print(f'hosts: seed {seed}, {len(asked)} questions to each of {", ".join(HOSTS)}, {len(answers.known)} scenarios '
-          f'enclosed, {len(small)} questions under valgrind to each of {", ".join(WATCHED)}, {len(faults)} faults')
+          f'enclosed, {len(small)} questions under valgrind to each of {", ".join(WATCHED)}, {len(faults)} faults, '
+          f'greatest widths: {answers.tally.greatest_widths()}')
     return 1 if faults else 0
 
 

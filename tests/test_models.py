@@ -1,4 +1,4 @@
-"""Check medians, sigmas and the nonlinear part against document 01 and the papers, by way of models.py.
+"""Check medians, sigmas and the nonlinear part against documents 01 and 02 and the papers, by way of models.py.
 
 Run as: python3 tests/test_models.py PROBE [COUNT] [SEED]
 
@@ -12,7 +12,9 @@ natural logarithm, or a table number, or `none` where an argument is outside the
     nonlinear ROW VELOCITY LOW HIGH                             -> LOW HIGH
     table MAGNITUDE                                             -> 2 or 3
 
-COUNT is how many questions are drawn besides the fixed ones, 20,000 unless given.
+The probe knows rows, and for Idriss's sigma every accepted period.  What models.py gives between the rows is checked
+here by itself; the programs that answer are held against it in the other tests.  COUNT is how many questions are drawn
+besides the fixed ones, 20,000 unless given.
 """
 
 import math
@@ -23,9 +25,11 @@ from fractions import Fraction
 from functools import lru_cache
 from typing import NamedTuple, Tuple
 
+import formula_pairs
 import models
+import records
 from ask import ask
-from exact import Pair, meets, reciprocal_sum, stated
+from exact import Pair, add, meets, mul, reciprocal_sum, stated, sub
 from models import BOORE_ATKINSON, IDRISS, IDRISS_PERIODS, ROWS, accepted, row_of, within
 
 COUNT = 20000
@@ -39,6 +43,8 @@ LOWEST = -10 ** 10
 
 # How many units the two ends may be apart.
 WIDEST = {'idriss': 100, 'idriss_sigma': 10, 'boore_atkinson': 2000, 'boore_atkinson_sigma': 0, 'nonlinear': 2000}
+# W-201, between the rows: "20 units for sigma".
+SIGMA_BETWEEN = 20
 # The nonlinear part is held to that for pairs of p up to so many units wide; for wider pairs it may go beyond the
 # exact range, at either end, by so many units and a hundredth of the pair's width.
 NARROW = 10
@@ -73,7 +79,7 @@ def is_due(question):
         return accepted(BOORE_ATKINSON, *arguments)
     if name == 'idriss_sigma':
         period, magnitude = arguments
-        return (period == 0 or period in IDRISS_PERIODS) and within(magnitude, IDRISS.magnitude)
+        return records.accepts_period(period) and within(magnitude, IDRISS.magnitude)
     if name == 'boore_atkinson_sigma':
         row, mechanism = arguments
         return within(row, (0, ROWS - 1)) and mechanism in BOORE_ATKINSON.mechanism
@@ -82,6 +88,16 @@ def is_due(question):
         return (within(row, (0, ROWS - 1)) and within(velocity, BOORE_ATKINSON.velocity)
                 and LOWEST <= low <= high <= 0)
     return True
+
+
+def is_between_rows(question):
+    """Say whether a question is one for Idriss's sigma at a period that has no row."""
+    return question.name == 'idriss_sigma' and records.between_rows(records.IDRISS, question.arguments[0])
+
+
+def widest(question):
+    """Return how many units the two ends of an answer may be apart."""
+    return SIGMA_BETWEEN if is_between_rows(question) else WIDEST[question.name]
 
 
 def given_pair(low, high):
@@ -260,13 +276,19 @@ def next_to(threshold, magnitude, mechanism):
     return [(abs(estimate(distance) - threshold), magnitude, distance, mechanism) for distance in (near, far)]
 
 
-def closest(number, how_many):
-    """Return magnitude, distance and mechanism of the scenarios whose p is closest to the logarithm of a number."""
+@lru_cache(maxsize=None)
+def by_distance_to(number):
+    """Return what next_to gives for all magnitudes and mechanisms, by how far p is from the logarithm of a number."""
     found = []
     for magnitude in range(BOORE_ATKINSON.magnitude[0], BOORE_ATKINSON.magnitude[1] + 1):
         for mechanism in BOORE_ATKINSON.mechanism:
             found += next_to(math.log(number), magnitude, mechanism)
-    return [fields for _, *fields in sorted(found)[:how_many]]
+    return sorted(found)
+
+
+def closest(number, how_many):
+    """Return magnitude, distance and mechanism of the scenarios whose p is closest to the logarithm of a number."""
+    return [fields for _, *fields in by_distance_to(number)[:how_many]]
 
 
 def at_thresholds(rng):
@@ -288,10 +310,17 @@ def at_thresholds(rng):
 # The other questions
 # ---------------------------------------------------------------------------
 
+def untabled():
+    """Return periods without a row of Idriss: beside each row, and in the middle between any two."""
+    pairs = [*zip(IDRISS_PERIODS, IDRISS_PERIODS[1:])]
+    return sorted({period for lower, upper in pairs for period in (lower + 1, (lower + upper) // 2, upper - 1)})
+
+
 def sigmas():
-    """Return the questions for sigma: every period and row, with the magnitudes and codes around the limits."""
+    """Return the questions for sigma: every row, periods between, and the magnitudes and codes around the limits."""
     questions = []
-    for period in (0, *IDRISS_PERIODS, 1, 9, 11, 49, 51, 70, 2999, 3001, 9999, 10001, FIELD_END):
+    # Among them are 49, 50, 51, 2999, 3000 and 3001: "T in seconds held to 0.05 to 3".
+    for period in (0, *IDRISS_PERIODS, *untabled(), 70, 1, 9, 10001, 32768 + 70, FIELD_END):
         for magnitude in (0, 449, 450, 451, 499, 500, 501, 675, 676, 749, 750, 751, 789, 790, 791, FIELD_END):
             questions.append(Question('idriss_sigma', (period, magnitude)))
     for row in (*range(ROWS), 22, 23, 44, 255):
@@ -377,6 +406,8 @@ def by_formula(rng):
         questions.append(Question('nonlinear', (row, rng.randint(1800, 7600), p, p + rng.randint(0, 10)), True))
         questions.append(Question('boore_atkinson_sigma', (row, rng.choice(BOORE_ATKINSON.mechanism)), True))
         questions.append(Question('idriss_sigma', (IDRISS_PERIODS[row], any_magnitude(rng, IDRISS)), True))
+    for period in untabled():
+        questions.append(Question('idriss_sigma', (period, any_magnitude(rng, IDRISS)), True))
     return questions
 
 
@@ -418,7 +449,8 @@ def draw_question(rng):
     if kind < 18:
         return Question('nonlinear', (rng.randrange(ROWS), any_velocity(rng, BOORE_ATKINSON), *draw_pair(rng)))
     if kind < 19:
-        return Question('idriss_sigma', (rng.choice((0, *IDRISS_PERIODS)), rng.randint(440, 800)))
+        period = rng.choice((0, *IDRISS_PERIODS) if rng.randrange(2) else range(10 ** rng.randint(2, 4) + 2))
+        return Question('idriss_sigma', (period, rng.randint(440, 800)))
     if rng.randrange(2):
         return Question('boore_atkinson_sigma', (rng.randrange(ROWS + 2), rng.randrange(12)))
     return Question('table', (rng.choice((rng.randint(600, 750), rng.randint(0, FIELD_END))),))
@@ -452,7 +484,6 @@ def in_units(difference):
 def width_fault(question, ends, true):
     """Return what is wrong with the width of an answer, or None."""
     low, high = ends
-    widest = WIDEST[question.name]
     if question.name == 'nonlinear':
         width = question.arguments[3] - question.arguments[2]
         if width > NARROW:
@@ -462,7 +493,7 @@ def width_fault(question, ends, true):
             if Fraction(high, UNITS) > true.high + room:
                 return f'the high end is {in_units(Fraction(high, UNITS) - true.high)} above the range'
             return None
-    return f'the ends are {high - low} units apart' if high - low > widest else None
+    return f'the ends are {high - low} units apart' if high - low > widest(question) else None
 
 
 def ends_fault(question, ends):
@@ -604,6 +635,85 @@ def printed_in_text():
         yield f'sigma of {one} and {other}', models.idriss_sigma(*one) == models.idriss_sigma(*other)
 
 
+def true_units():
+    """Check values between the rows that are given in units with four decimals: M 7.00, 10 km, 760 m/s, code 2."""
+    fields, room = (700, 1000, 7600, 2), Fraction(1, 2 * 10 ** 4)
+    for value, units in ((models.idriss_median_at(3, 70, *fields), '-747978464.4812'),
+                         (models.idriss_sigma(70, 700), '666925898.7074'),
+                         (models.boore_atkinson_median_at(40, *fields), '-1313794197.8390'),
+                         (models.boore_atkinson_sigma_at(40, 2), '583321220.3301'),
+                         (models.boore_atkinson_median_at(70, *fields), '-1069227804.0903')):
+        yield f'{units} units', near(value, Fraction(units) / UNITS, room / UNITS)
+    # The rows 0.01 and 0.02 have the same sigma, so that it is exact between them.
+    for mechanism, number in ((2, '0.566'), (9, '0.569')):
+        yield f'{number} at 0.011 s', models.boore_atkinson_sigma_at(11, mechanism) == stated(number)
+        yield 'its pair', models.boore_atkinson_sigma_at_pair(11, mechanism, 1) == stated(number)
+
+
+def values_at(model, period, fields):
+    """Return pairs around the real values at a period: Idriss's median by both tables, or median and sigma."""
+    if model == records.IDRISS:
+        return [models.idriss_median_at(table, period, *fields) for table in (2, 3)]
+    return [models.boore_atkinson_median_at(period, *fields), models.boore_atkinson_sigma_at(period, fields[3])]
+
+
+def values_by_row(model, row, fields):
+    """Return pairs around the same values with a row."""
+    if model == records.IDRISS:
+        return [models.idriss_median(table, row, *fields) for table in (2, 3)]
+    return [models.boore_atkinson_median(row, *fields), stated(models.boore_atkinson_sigma(row, fields[3]))]
+
+
+def pairs_at(model, period, fields, n):
+    """Return the formulas' pairs of the same values."""
+    if model == records.IDRISS:
+        return [models.idriss_median_at_pair(table, period, *fields, n) for table in (2, 3)]
+    return [models.boore_atkinson_median_at_pair(period, *fields, n),
+            models.boore_atkinson_sigma_at_pair(period, fields[3], n)]
+
+
+def pairs_elsewhere(model, period, fields, n):
+    """Return the formulas' pairs by formula_pairs.py, each with its place; of Idriss by the magnitude's own table."""
+    pairs = formula_pairs.formula_pairs(formula_pairs.OUTWARD, records.Scenario(model, *fields, period), n)
+    return [(models.table_of(fields[0]) - 2, pairs[0])] if model == records.IDRISS else [*enumerate(pairs)]
+
+
+def around(p, q, room):
+    """Say whether a pair contains another, but for very little, and is not wider by more than so much at an end."""
+    return -TINY <= q.low - p.low < room and -TINY <= p.high - q.high < room
+
+
+def one_between(model, lower, upper, period, fields):
+    """Check a period between two others: against their values, by another form, and by the formulas' pairs."""
+    name = f'model {model}, {lower} < {period} < {upper}, {fields}'
+    at_lower, at_upper, values = (values_at(model, t, fields) for t in (lower, upper, period))
+    part = stated(models.real_ln(period, lower).low / models.real_ln(upper, lower).low)
+    for v1, v2, value in zip(at_lower, at_upper, values):
+        yield f'{name}: within', min(v1.low, v2.low) <= value.low and value.high <= max(v1.high, v2.high)
+        # v1 (1 − w) + v2 w is the same number.
+        yield f'{name}: by another form', near(value, add(mul(v1, sub(stated(1), part)), mul(v2, part)).low)
+    for n in FINENESS:
+        pairs = pairs_at(model, period, fields, n)
+        yield f'{name}: pairs at n = {n}', all(map(formula_pairs.contains, pairs, values))
+        yield f'{name}: other pairs at n = {n}', all(around(p, pairs[at], Fraction(1, UNITS))
+                                                     for at, p in pairs_elsewhere(model, period, fields, n))
+
+
+def between_the_rows(rng):
+    """Check what models.py gives between any two neighbouring rows, at distances up to 1 km, and at the rows."""
+    for model, limits in ((records.IDRISS, IDRISS), (records.BOORE_ATKINSON, BOORE_ATKINSON)):
+        tabled = records.PERIODS[model]
+        for lower, upper in zip(tabled, tabled[1:]):
+            magnitude, _, velocity, mechanism = draw_fields(rng, limits)
+            fields = magnitude, rng.randint(0, 100), velocity, mechanism
+            yield from one_between(model, lower, upper, rng.randint(lower + 1, upper - 1), fields)
+        for period in (0, *tabled):
+            # "Tabled periods answer as before."
+            fields = draw_fields(rng, limits)
+            by_row = values_by_row(model, records.row(model, period), fields)
+            yield f'model {model}, period {period}', values_at(model, period, fields) == by_row
+
+
 def sums_and_pairs(questions):
     """Check the enclosures of long sums, and that the true values lie in the formula's pairs."""
     for first, last in ((1, 3000), (1999, 5000), (2000, 5000), (2001, 5000), (2002, 6000), (9000, 30000)):
@@ -621,6 +731,7 @@ def sums_and_pairs(questions):
 def self_checks(questions):
     """Return a message for each check of models.py that does not hold."""
     checks = [*marked_values(), *continuity(), *printed_in_text(), *sums_and_pairs(questions)]
+    checks += [*true_units(), *between_the_rows(random.Random(SEED))]
     return [f'models.py: {what}' for what, holds in checks if not holds], len(checks)
 
 
@@ -635,6 +746,7 @@ def greatest_widths(questions, lines):
         name, arguments, _ = question
         ends = read_ends(line)
         if ends and not (name == 'nonlinear' and arguments[3] - arguments[2] > NARROW):
+            name += ' between rows' if is_between_rows(question) else ''
             greatest[name] = max(greatest.get(name, 0), ends[1] - ends[0])
     return greatest
 

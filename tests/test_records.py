@@ -1,4 +1,4 @@
-"""Check refusals, rows, reading and writing against document 01, by way of records.py.
+"""Check refusals, rows, reading and writing against document 01 and W-201 of document 02, by way of records.py.
 
 Run as: python3 tests/test_records.py ASK PROBE [COUNT] [SEED]
 
@@ -7,13 +7,15 @@ ASK, a host's program, and PROBE read one question from each line of their input
     refusal MODEL MAGNITUDE DISTANCE VELOCITY MECHANISM PERIOD      -> K
     read BYTES                                                      -> E MODEL ... PERIOD LENGTH REST or R K REST
     write MODEL MAGNITUDE DISTANCE VELOCITY MECHANISM PERIOD BYTES  -> L N BYTES or R K BYTES
+    rows MODEL PERIOD                                               -> T LOWER UPPER or R K
 
 and PROBE
 
     place MODEL PERIOD                                              -> row N, between N (and N + 1), or outside
     rest BYTES                                                      -> REST
 
-Numbers are decimal; bytes are pairs of lower-case hexadecimal digits, or - for none, and at most 259 of them.
+LOWER and UPPER are the periods of the two rows that an answer at that period rests on, in thousandths.  Numbers are
+decimal; bytes are pairs of lower-case hexadecimal digits, or - for none, and at most 259 of them.
 COUNT is how many questions are drawn besides the fixed ones, 20,000 unless given.
 """
 
@@ -24,7 +26,7 @@ from itertools import combinations
 from typing import NamedTuple, Optional
 
 from ask import ask
-from records import Scenario, place, read, record, refusal, write
+from records import Scenario, place, read, record, refusal, rows, write
 
 COUNT = 20000
 SEED = 20080214
@@ -63,11 +65,51 @@ PAPER = (
         ('refusal 1 700 1000 12000 2 75', '0'),
         ('refusal 1 700 1000 20000 2 75', '0'),
         ('refusal 1 700 1000 20001 2 75', '4'))),
-    ('Period 40: answered by Idriss, 6 by Boore-Atkinson. Period 70: 6 by both.', (
+    ('Refusal 6 is left with 1 to 9 and above 10000, so periods 40 and 70 [...] are now answered in both models.', (
         ('refusal 1 700 1000 7600 2 40', '0'),
-        ('refusal 2 700 1000 7600 2 40', '6'),
-        ('refusal 1 700 1000 7600 2 70', '6'),
-        ('refusal 2 700 1000 7600 2 70', '6'))),
+        ('refusal 2 700 1000 7600 2 40', '0'),
+        ('refusal 1 700 1000 7600 2 70', '0'),
+        ('refusal 2 700 1000 7600 2 70', '0'),
+        ('refusal 1 700 1000 7600 2 0', '0'),
+        ('refusal 2 700 1000 7600 2 0', '0'),
+        ('refusal 1 700 1000 7600 2 1', '6'),
+        ('refusal 2 700 1000 7600 2 1', '6'),
+        ('refusal 1 700 1000 7600 2 9', '6'),
+        ('refusal 2 700 1000 7600 2 9', '6'),
+        ('refusal 1 700 1000 7600 2 10', '0'),
+        ('refusal 2 700 1000 7600 2 10', '0'),
+        ('refusal 1 700 1000 7600 2 10000', '0'),
+        ('refusal 2 700 1000 7600 2 10000', '0'),
+        ('refusal 1 700 1000 7600 2 10001', '6'),
+        ('refusal 2 700 1000 7600 2 10001', '6'),
+        ('refusal 1 700 1000 7600 2 65535', '6'),
+        ('refusal 2 700 1000 7600 2 65535', '6'))),
+    ('answered between the two neighbouring rows of the model', (
+        ('rows 1 70', 'T 50 75'),
+        ('rows 2 70', 'T 50 75'),
+        ('rows 1 40', 'T 40 40'),
+        ('rows 2 40', 'T 30 50'),
+        ('rows 1 31', 'T 30 40'),
+        ('rows 2 31', 'T 30 50'),
+        ('rows 1 49', 'T 40 50'),
+        ('rows 2 49', 'T 30 50'),
+        ('rows 1 11', 'T 10 20'),
+        ('rows 2 11', 'T 10 20'),
+        ('rows 1 75', 'T 75 75'),
+        ('rows 2 75', 'T 75 75'),
+        ('rows 1 9999', 'T 7500 10000'),
+        ('rows 2 9999', 'T 7500 10000'),
+        ('rows 1 10000', 'T 10000 10000'),
+        ('rows 2 10000', 'T 10000 10000'),
+        ('rows 1 9', 'R 6'),
+        ('rows 2 10001', 'R 6'),
+        ('rows 0 70', 'R 1'),
+        ('rows 3 9', 'R 1'))),
+    ('Period 0 uses the row 0.01. [...] Period 0 uses the row PGA.', (
+        ('rows 1 0', 'T 10 10'),
+        ('rows 1 10', 'T 10 10'),
+        ('rows 2 0', 'T 0 0'),
+        ('rows 2 10', 'T 10 10'))),
     ('Code 9: 5 by Idriss.', (
         ('refusal 1 700 1000 7600 9 75', '5'),
         ('refusal 2 700 1000 7600 9 75', '0'))),
@@ -85,15 +127,22 @@ PAPER = (
         ('read 3701bc02e803024b00ff00', 'E 1 700 1000 7600 2 75 9 ff00'),
         ('write 1 700 1000 7600 2 75 c1c2c3c4c5c6c7c8c9', 'L 9 3701bc02e803024b00'),
         ('write 1 700 1000 7600 2 75 c1c2c3c4c5c6c7c8c9cacb', 'L 9 3701bc02e803024b00cacb'))),
-    ('For the bytes 37 01 BC 02 E8 03 02 46 00 (hexadecimal) it prints [...] `1 R 6`', (
-        ('read 3701bc02e803024600', 'R 6 -'),
-        ('read 3701bc02e803024600ff', 'R 6 -'))),
+    # Document 01 has `1 R 6` for the first of these; W-201 answers it.
+    ('the bytes 37 01 BC 02 E8 03 02 46 00 (hexadecimal)', (
+        ('read 3701bc02e803024600', 'E 1 700 1000 7600 2 70 9 -'),
+        ('read 3701bc02e803024600ff', 'E 1 700 1000 7600 2 70 9 ff'),
+        ('write 1 700 1000 7600 2 70 c1c2c3c4c5c6c7c8c9cacb', 'L 9 3701bc02e803024600cacb'),
+        ('read 3701bc02e803020900', 'R 6 -'),
+        ('read 3701bc02e803020900ff', 'R 6 -'))),
     ('Low byte first.', (
         ('read 3f02bc0202014c1d03d00755', 'E 2 700 258 7500 3 2000 11 55'),
         ('read 3f02bc0201024c1d03d007', 'E 2 700 513 7500 3 2000 11 -'),
         ('read 3f0202bc02014c1d03d007', 'R 2 -'),
         ('read 3f02bc0202011d4c03d007', 'R 4 -'),
         ('read 3f02bc0202014c1d0307d0', 'R 6 -'),
+        ('read 3f02bc0202014c1d03020155', 'E 2 700 258 7500 3 258 11 55'),
+        ('read 3f02bc0202014c1d03010255', 'E 2 700 258 7500 3 513 11 55'),
+        ('write 2 700 258 7500 3 513 000000000000000000000055', 'L 11 3f02bc0202014c1d03010255'),
         ('write 2 700 258 7500 3 2000 000000000000000000000055', 'L 11 3f02bc0202014c1d03d00755'),
         ('write 1 515 513 10000 4 10000 0000000000000000000000', 'L 11 3f01030201021027041027'))),
     ('An absent velocity is 7600, mechanism 9, period 0; a field with that number is never written.', (
@@ -105,8 +154,10 @@ PAPER = (
     ('lent bytes shorter than the record [...] lent bytes do not change', (
         ('write 2 700 1000 7600 9 0 ffffffffff', 'R 12 ffffffffff'),
         ('write 2 700 1000 7600 9 0 -', 'R 12 -'),
-        ('write 2 700 1000 7600 9 40 ffffffffffffffffffff', 'R 6 ffffffffffffffffffff'),
-        ('write 2 700 1000 7600 9 40 -', 'R 6 -'))),
+        ('write 2 700 1000 7600 9 40 ffffffffffffffffffff', 'L 8 2702bc02e8032800ffff'),
+        ('write 2 700 1000 7600 9 40 ffffffffffffff', 'R 12 ffffffffffffff'),
+        ('write 2 700 1000 7600 9 9 ffffffffffffffffffff', 'R 6 ffffffffffffffffffff'),
+        ('write 2 700 1000 7600 9 10001 -', 'R 6 -'))),
 )
 
 # The table of 'The scenario', each limit and one step either side: model, refusal, accepted, turned away.
@@ -134,8 +185,8 @@ GOOD = {1: Scenario(1, 700, 1000, 7500, 2, 75), 2: Scenario(2, 650, 258, 3600, 1
 
 # For each model, numbers that are turned away by the refusals 2 to 6.
 WRONG = {
-    1: {2: (449, 791), 3: (17501, 65535), 4: (4499, 20001), 5: (5, 9), 6: (70, 1)},
-    2: {2: (499, 801), 3: (20000, 65535), 4: (1799, 13001), 5: (4, 10), 6: (40, 70)},
+    1: {2: (449, 791), 3: (17501, 65535), 4: (4499, 20001), 5: (5, 9), 6: (9, 10001)},
+    2: {2: (499, 801), 3: (20000, 65535), 4: (1799, 13001), 5: (4, 10), 6: (1, 65535)},
 }
 
 # Map bytes in which bits 0 to 2 stand, 6 and 7 are clear.
@@ -203,6 +254,8 @@ def answer(line):
     name, *words = line.split(' ')
     if name == 'place':
         return place(int(words[0]), int(words[1]))
+    if name == 'rows':
+        return text(*rows(int(words[0]), int(words[1])))
     if name == 'read':
         answered = read(taken(words[0]))
         if answered[0] == 'R':
@@ -282,18 +335,36 @@ def refusal_order():
 def periods():
     """The place of every period in both models, and whether periods are turned away."""
     for model in (1, 2):
-        rows = {period: numbers[model - 1] for period, *numbers in ROWS if numbers[model - 1] != 22}
+        row_numbers = {period: numbers[model - 1] for period, *numbers in ROWS if numbers[model - 1] != 22}
         last = 'outside'
         for period in range(65536):
-            number = rows.get(period, 22)
+            number = row_numbers.get(period, 22)
             if number != 22:
                 # What follows lies between this row and the next, but after period 0 and after the last row.
                 last = 'outside' if period in (0, 10000) else f'between {number}'
-            yield Question('rows', text('place', model, period), last if number == 22 else f'row {number}')
+            yield Question('places', text('place', model, period), last if number == 22 else f'row {number}')
             # Every tabled period, the numbers beside it and beside all other multiples of 5, and the greatest.
             if period % 5 in (0, 1, 4) and period <= 10001 or period == 65535:
                 scenario = GOOD[model]._replace(period=period)
-                yield from three_ways('periods', scenario, 6 if number == 22 else 0)
+                yield from three_ways('periods', scenario, 6 if 0 < period < 10 or period > 10000 else 0)
+
+
+def periods_of_rows():
+    """The two rows of every period in both models, and of some in every model."""
+    kind = 'rows'
+    for model in (1, 2):
+        tabled = [period for period, *numbers in ROWS if period and numbers[model - 1] != 22]
+        # Period 0: the row 0.01 of Idriss, the row PGA of Boore-Atkinson; then 1 to 9.
+        first = 'T 10 10' if model == 1 else 'T 0 0'
+        stated = [first, *['R 6'] * 9]
+        for lower, upper in zip(tabled, tabled[1:]):
+            stated += [text('T', lower, lower), *[text('T', lower, upper)] * (upper - lower - 1)]
+        stated += ['T 10000 10000', *['R 6'] * 55535]
+        for period, line in enumerate(stated):
+            yield Question(kind, text('rows', model, period), line)
+    for model in (0, *range(3, 256)):
+        for period in (0, 1, 9, 10, 11, 40, 70, 75, 9999, 10000, 10001, 65535):
+            yield Question(kind, text('rows', model, period), 'R 1')
 
 
 def map_bytes():
@@ -301,7 +372,7 @@ def map_bytes():
     kind = 'map bytes'
     nothing_wrong = GOOD[2]
     defaults = with_fields(GOOD[2], DEFAULTS)
-    wrong = Scenario(3, 0, 65535, 0, 200, 70)
+    wrong = Scenario(3, 0, 65535, 0, 200, 9)
     wrong_defaults = with_fields(wrong, DEFAULTS)
     for map_byte in range(256):
         for scenario in (nothing_wrong, defaults, wrong, wrong_defaults):
@@ -366,7 +437,7 @@ def not_defaults():
     for place, value, number in (
             (0, 9, 1), (0, 0, 1), (1, 0, 2), (1, 9, 2), (1, 7600, 2), (2, 0, 0), (2, 9, 0), (2, 7600, 0),
             (3, 0, 4), (3, 9, 4), (3, 7599, 0), (3, 7601, 0), (3, 7344, 0), (3, 7856, 0), (3, 45085, 4),
-            (4, 0, 0), (4, 8, 5), (4, 176, 5), (5, 1, 6), (5, 9, 6), (5, 256, 6), (5, 7600, 6)):
+            (4, 0, 0), (4, 8, 5), (4, 176, 5), (5, 1, 6), (5, 9, 6), (5, 256, 0), (5, 7600, 0), (5, 45085, 6)):
         for model in (1, 2):
             yield from three_ways(kind, with_fields(GOOD[model], {place: value}), number)
 
@@ -396,12 +467,13 @@ def byte_order():
         for magnitude in (511, 513, 515, 700, 770):
             for distance in (1, 255, 256, 258, 513, 4660, 13330):
                 for velocity in (4864, 7500, 7601, 12345):
-                    for period in (75, 300, 1000, 10000):
+                    for period in (75, 258, 513, 1000, 10000):
                         scenario = Scenario(model, magnitude, distance, velocity, 3, period)
                         yield from three_ways('low byte first', scenario, 0)
 
 
-FIXED = (paper, limits, codes, refusal_order, periods, map_bytes, prefixes, defaults, not_defaults, writing, byte_order)
+FIXED = (paper, limits, codes, refusal_order, periods, periods_of_rows, map_bytes, prefixes, defaults, not_defaults,
+         writing, byte_order)
 
 
 # ---------------------------------------------------------------------------
@@ -421,15 +493,17 @@ def accepted(rng):
     if rng.randrange(3) == 0:
         velocity = 7600
     mechanism = 9 if model == 2 and rng.randrange(3) == 0 else rng.choice(CODES[model])
-    tabled = [period for period, *rows in ROWS if rows[model - 1] != 22]
-    period = 0 if rng.randrange(3) == 0 else rng.choice(tabled)
+    tabled = [period for period, *numbers in ROWS if period and numbers[model - 1] != 22]
+    # As often a tabled period as one between two rows.
+    between = rng.choice([range(lower + 1, upper) for lower, upper in zip(tabled, tabled[1:])])
+    period = 0 if rng.randrange(3) == 0 else rng.choice(rng.choice((tabled, between)))
     return Scenario(model, magnitude, distance, velocity, mechanism, period)
 
 
 def near_limits(rng):
     """Draw a scenario some of whose fields are at a limit of either model, or one step beside it."""
     beside_tabled = [max(tabled + step, 0) for tabled, *_ in ROWS for step in (-1, 0, 1)]
-    near = {0: [0, 1, 2, 3], 4: [*range(11), 255], 5: beside_tabled}
+    near = {0: [0, 1, 2, 3], 4: [*range(11), 255], 5: beside_tabled + [9, 10, 10000, 10001] * 5}
     for _, number, inside, outside in LIMITS:
         near[number - 1] = near.get(number - 1, []) + list(inside + outside)
     return with_fields(accepted(rng), {place: rng.choice(near[place]) for place in near if rng.randrange(3) == 0})
@@ -550,7 +624,7 @@ def rules_fault(question, expected):
     name, *words = question.line.split(' ')
     if name == 'read':
         return read_fault(taken(words[0]))
-    if name == 'place':
+    if name in ('place', 'rows'):
         return None
     scenario = Scenario(*map(int, words[:6]))
     fault = scenario_fault(scenario)
@@ -569,6 +643,7 @@ def outcomes_fault(asked, answers):
     """Return which outcomes of document 01 no question has, or which of them there should not be, or None."""
     wanted = {f'refusal {number}' for number in range(7)} | {f'place row {number}' for number in range(22)}
     wanted |= {f'place between {number}' for number in range(21)} | {'place outside'}
+    wanted |= {'rows T', 'rows R 1', 'rows R 6'}
     # Reading never gives 10, as 9 comes first.
     wanted |= {f'read R {number}' for number in (1, 2, 3, 4, 5, 6, 7, 8, 9, 11)} | {'read E'}
     wanted |= {f'write R {number}' for number in (1, 2, 3, 4, 5, 6, 12)} | {'write L'}

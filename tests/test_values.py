@@ -12,10 +12,11 @@ import sys
 from fractions import Fraction
 
 from exact import Pair, ln_pair, root_pair, stated
-from formula_pairs import EXACT, idriss_median, idriss_sigma, nonlinear, row_pairs, slope
+from formula_pairs import (EXACT, boore_atkinson_sigma, idriss_median, idriss_sigma, nonlinear, row_pairs,
+                           slope)
 from models import (BOORE_ATKINSON_PERIODS, IDRISS_PERIODS, alpha_part, beta_factor,
                     slope_pair, table_of)
-from records import Scenario, read
+from records import BOORE_ATKINSON, IDRISS, Scenario, read
 
 HERE = os.path.dirname(os.path.abspath(__file__))
 CRATES = os.path.join(HERE, '..', 'crates')
@@ -130,9 +131,10 @@ def cut_holds(match, pair):
 
 
 def scenario_holds(match):
-    """Say whether the pair of an Idriss scenario's median or sigma is what a row states."""
+    """Say whether the pair of a scenario's median or sigma is what a row states."""
     scenario = Scenario(*map(whole, match.group(3).split(' ∷ ')[:-1]))
-    formula = {'median': idriss_median, 'sigma': idriss_sigma}[match.group(2)]
+    formula = {('median', IDRISS): idriss_median, ('sigma', IDRISS): idriss_sigma,
+               ('sigma', BOORE_ATKINSON): boore_atkinson_sigma}[match.group(2), scenario.model]
     return cut_holds(match, formula(EXACT, scenario, whole(match.group(1))))
 
 

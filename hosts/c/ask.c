@@ -6,6 +6,9 @@
    answer SCENARIO, answer_record BYTES, doubles SCENARIO, doubles_record BYTES
                           E and four ends, or R NUMBER; a double is printed as the whole number that it equals
    words NUMBER           what the number of a refusal stands for
+   rows MODEL PERIOD      T and the periods of the two rows that an answer rests on, or R NUMBER
+   rows_words MODEL PERIOD
+                          the same in words
    null                   the numbers of reading, answering from a record in both ways, and writing, with null pointers
                           by fusnoch.h, and by the wrapper where the length says otherwise */
 #include <inttypes.h>
@@ -79,6 +82,16 @@ static void print_doubles(fusnoch_doubles d)
         printf("R %u with ends\n", d.number);
 }
 
+static void print_rows(fusnoch_periods rows)
+{
+    if (rows.number == 0)
+        printf("T %u %u\n", rows.lower, rows.upper);
+    else if (rows.lower == 0 && rows.upper == 0)
+        printf("R %u\n", rows.number);
+    else
+        printf("R %u with periods\n", rows.number);
+}
+
 static void print_reading(ground_motion_reading r, const uint8_t *bytes)
 {
     fusnoch_scenario s = r.scenario;
@@ -138,6 +151,25 @@ static int answer_scenario(const char *name, const char *text)
     return known;
 }
 
+/* Answers a question with a model and a period; 0 where it is none, or one of them does not fit. */
+static int answer_period(const char *name, const char *text)
+{
+    char room[GROUND_MOTION_ROWS_ROOM];
+    unsigned model, period;
+    int used;
+
+    if (sscanf(text, "%u %u%n", &model, &period, &used) != 2 || text[used] != '\0' || model > UINT8_MAX
+        || period > UINT16_MAX)
+        return 0;
+    if (strcmp(name, "rows") == 0)
+        print_rows(fusnoch_rows((uint8_t)model, (uint16_t)period));
+    else if (strcmp(name, "rows_words") == 0)
+        puts(ground_motion_rows_words(room, (uint8_t)model, (uint16_t)period));
+    else
+        return 0;
+    return 1;
+}
+
 /* Answers a question with bytes; 0 where it is none. */
 static int answer_bytes(const char *name, const char *text)
 {
@@ -166,7 +198,7 @@ static int answer(const char *name, const char *text)
     else if (strcmp(name, "words") == 0 && sscanf(text, "%" SCNu8, &number) == 1)
         puts(ground_motion_words(number));
     else
-        return answer_scenario(name, text) || answer_bytes(name, text);
+        return answer_scenario(name, text) || answer_period(name, text) || answer_bytes(name, text);
     return 1;
 }
 

@@ -1,6 +1,8 @@
 /* The safe way to fusnoch.h, see ground_motion.h. */
 #include "ground_motion.h"
 
+#include <stdio.h>
+
 static const char *const WORDS[] = {
     "not a refusal",
     "model: neither 1 nor 2",
@@ -8,7 +10,7 @@ static const char *const WORDS[] = {
     "distance: beyond the model's limits",
     "velocity: beyond the model's limits",
     "mechanism: not a code of the model",
-    "period: neither 0 nor tabled for the model",
+    "period: neither 0 nor from 10 to 10000",
     "cut short: no map byte, or fewer bytes than the map calls for",
     "spare bit: bit 6 or 7 stands",
     "wanting: bit 0, 1 or 2 is clear",
@@ -19,6 +21,35 @@ static const char *const WORDS[] = {
 const char *ground_motion_words(uint8_t number)
 {
     return WORDS[number < sizeof WORDS / sizeof *WORDS ? number : 0];
+}
+
+enum { NAME_ROOM = 8 };
+
+/* The name of a period: its seconds, or PGA for peak acceleration. */
+static void name_period(char name[NAME_ROOM], uint16_t period)
+{
+    if (period == 0)
+        snprintf(name, NAME_ROOM, "PGA");
+    else
+        snprintf(name, NAME_ROOM, "%u.%03u", period / 1000u, period % 1000u);
+}
+
+const char *ground_motion_rows_words(char room[GROUND_MOTION_ROWS_ROOM], uint8_t model, uint16_t period)
+{
+    fusnoch_periods rows = fusnoch_rows(model, period);
+    char name[NAME_ROOM], lower[NAME_ROOM], upper[NAME_ROOM];
+    const char *unit = period == 0 ? "" : " s";
+
+    name_period(name, period);
+    name_period(lower, rows.lower);
+    name_period(upper, rows.upper);
+    if (rows.number != 0)
+        snprintf(room, GROUND_MOTION_ROWS_ROOM, "refusal %u, %s", rows.number, ground_motion_words(rows.number));
+    else if (rows.lower == rows.upper)
+        snprintf(room, GROUND_MOTION_ROWS_ROOM, "%s%s: the row %s", name, unit, lower);
+    else
+        snprintf(room, GROUND_MOTION_ROWS_ROOM, "%s%s: between %s and %s", name, unit, lower, upper);
+    return room;
 }
 
 /* A null pointer counts as no bytes. */

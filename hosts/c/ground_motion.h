@@ -1,6 +1,6 @@
 /* Ground motion with proved ends, for programs in C: the safe way to the functions of fusnoch.h that take a pointer,
-   and the words of the refusals.  fusnoch_refusal, fusnoch_answer_fields and fusnoch_answer_fields_in_doubles take no
-   pointer and are called as they are.
+   and the words of the refusals and of the rows that an answer rests on.  fusnoch_refusal, fusnoch_answer_fields,
+   fusnoch_answer_fields_in_doubles and fusnoch_rows take no pointer and are called as they are.
 
    The number of a result is 0, or that of the refusal; a refused result has zeros for all else.  A null pointer counts
    as no bytes, whatever the length. */
@@ -28,8 +28,15 @@ typedef struct {
     size_t rest_length;
 } ground_motion_reading;
 
-/* What the number of a refusal, 1 to 12, stands for: "period: neither 0 nor tabled for the model". */
+/* What the number of a refusal, 1 to 12, stands for: "period: neither 0 nor from 10 to 10000". */
 const char *ground_motion_words(uint8_t number);
+
+/* Room for the words of ground_motion_rows_words. */
+enum { GROUND_MOTION_ROWS_ROOM = 64 };
+
+/* Puts in the room, and returns, what an answer of a model at a period rests on: "0.070 s: between 0.050 and 0.075",
+   "0.075 s: the row 0.075", "PGA: the row 0.010"; or the refusal, "refusal 1, model: neither 1 nor 2". */
+const char *ground_motion_rows_words(char room[GROUND_MOTION_ROWS_ROOM], uint8_t model, uint16_t period);
 
 fusnoch_answer ground_motion_answer_record(const uint8_t *bytes, size_t length);
 fusnoch_doubles ground_motion_answer_record_in_doubles(const uint8_t *bytes, size_t length);

@@ -1,5 +1,6 @@
 /* Prints the spectrum of one earthquake by both models side by side: a vertical strike-slip fault whose rupture begins
-   3 km down, at a site 10 km beside it, so that the rupture is 10.44 km away. */
+   3 km down, at a site 10 km beside it, so that the rupture is 10.44 km away.  Below the table stand the answers that
+   have no row of their own. */
 #include <inttypes.h>
 #include <math.h>
 #include <stdio.h>
@@ -15,10 +16,10 @@ static const fusnoch_scenario BOORE_ATKINSON = {
     .mechanism = GROUND_MOTION_STRIKE_SLIP};
 
 /* In 0.001 s; 0 is peak acceleration. */
-static const uint16_t PERIODS[] = {0,   10,  20,  30,  40,   50,   75,   100,  150,  200,  250,  300,
-                                   400, 500, 750, 1000, 1500, 2000, 3000, 4000, 5000, 7500, 10000};
+static const uint16_t PERIODS[] = {0,   10,  20,  30,  40,   50,   70,   75,   100,  150,  200,  250,
+                                   300, 400, 500, 750, 1000, 1500, 2000, 3000, 4000, 5000, 7500, 10000};
 
-enum { CELL = 58, LONGEST = 128 };
+enum { CELL = 58, LONGEST = 128, LINES = sizeof PERIODS / sizeof *PERIODS };
 
 /* The part of one model in a line: ends, or the refusal. */
 static void fill(char cell[LONGEST], fusnoch_scenario scenario, uint16_t period)
@@ -53,17 +54,37 @@ static void print_heading(void)
     printf("%8s | %s | %s\n", "period s", columns, columns);
 }
 
-int main(void)
+static void print_table(void)
 {
     char name[LONGEST] = "PGA", idriss[LONGEST], boore_atkinson[LONGEST];
 
-    print_heading();
-    for (size_t i = 0; i < sizeof PERIODS / sizeof *PERIODS; i++) {
+    for (int i = 0; i < LINES; i++) {
         if (PERIODS[i] != 0)
             snprintf(name, LONGEST, "%u.%03u", PERIODS[i] / 1000, PERIODS[i] % 1000);
         fill(idriss, IDRISS, PERIODS[i]);
         fill(boore_atkinson, BOORE_ATKINSON, PERIODS[i]);
         printf("%8s | %-*s | %s\n", name, CELL, idriss, boore_atkinson);
+    }
+}
+
+/* The two rows that a model's answer at a period rests on; nothing where there is one row, or no answer. */
+static void print_between(const char *title, uint8_t model, uint16_t period)
+{
+    fusnoch_periods rows = fusnoch_rows(model, period);
+    char words[GROUND_MOTION_ROWS_ROOM];
+
+    if (rows.number == 0 && rows.lower != rows.upper)
+        printf("%s, %s\n", title, ground_motion_rows_words(words, model, period));
+}
+
+int main(void)
+{
+    print_heading();
+    print_table();
+    puts("\nBetween rows: answered from the two rows named, by the logarithm of the period");
+    for (int i = 0; i < LINES; i++) {
+        print_between("Idriss 2014", IDRISS.model, PERIODS[i]);
+        print_between("Boore and Atkinson 2008", BOORE_ATKINSON.model, PERIODS[i]);
     }
     return 0;
 }

@@ -29,6 +29,14 @@ def ends(answer, *given):
         return f'R {refused.number}'
 
 
+def periods(*words):
+    """Return the line of the rows that an answer rests on."""
+    try:
+        return 'T {} {}'.format(*fusnoch.rows(*map(int, words)))
+    except Refused as refused:
+        return f'R {refused.number}'
+
+
 def number(function, *given):
     """Return the number of a refusal, 0 for none."""
     try:
@@ -82,6 +90,8 @@ QUESTIONS = {
     'answer_record': lambda text: ends(fusnoch.answer_record, taken(text)),
     'doubles_record': lambda text: ends(fusnoch.answer_record_in_doubles, taken(text)),
     'words': lambda text: Refused(int(text)).words,
+    'rows': periods,
+    'rows_words': lambda *words: fusnoch.rows_words(*map(int, words)),
     'null': null,
 }
 

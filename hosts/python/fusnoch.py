@@ -23,7 +23,7 @@ WORDS = {
     3: "distance: beyond the model's limits",
     4: "velocity: beyond the model's limits",
     5: 'mechanism: not a code of the model',
-    6: 'period: neither 0 nor tabled for the model',
+    6: 'period: neither 0 nor from 10 to 10000',
     7: 'cut short: no map byte, or fewer bytes than the map calls for',
     8: 'spare bit: bit 6 or 7 stands',
     9: 'wanting: bit 0, 1 or 2 is clear',
@@ -66,6 +66,10 @@ class _Doubles(ctypes.Structure):
     _fields_ = [('number', c_uint8), ('ends', c_double * 4)]
 
 
+class _Periods(ctypes.Structure):
+    _fields_ = [('number', c_uint8), ('lower', c_uint16), ('upper', c_uint16)]
+
+
 class _Reading(ctypes.Structure):
     _fields_ = [('number', c_uint8), ('scenario', _Scenario), ('length', c_size_t)]
 
@@ -80,6 +84,7 @@ def _load():
     library = ctypes.CDLL(os.path.abspath(os.path.join(os.environ.get('FUSNOCH_LIB') or nearby, 'libfusnoch.so')))
     for name, result, *taken in (
             ('refusal', c_uint8, _Scenario),
+            ('rows', _Periods, c_uint8, c_uint16),
             ('answer_fields', _Answer, _Scenario),
             ('answer_record', _Answer, c_char_p, c_size_t),
             ('answer_fields_in_doubles', _Doubles, _Scenario),
@@ -98,6 +103,15 @@ LIBRARY = _load()
 # Scenarios, answers and records
 # ---------------------------------------------------------------------------
 
+def _must_fit(name, kind, number):
+    """See that a number fits its field: ctypes would cut it, and the engine answer another question."""
+    most = 256 ** ctypes.sizeof(kind) - 1
+    if not isinstance(number, int) or isinstance(number, bool):
+        raise TypeError(f'{name} has to be a whole number (int), not {number!r}')
+    if not 0 <= number <= most:
+        raise ValueError(f'{name} has to be from 0 to {most}, not {number}')
+
+
 @dataclass(frozen=True)
 class Scenario:
     """The fields of a scenario, whole numbers in the units named here."""
@@ -110,13 +124,9 @@ class Scenario:
     period: int  # 0.001 s; 0 is peak acceleration
 
     def __post_init__(self):
-        """See that each number fits its field: ctypes would cut it, and the engine answer another scenario."""
+        """See that each number fits its field."""
         for name, kind in _Scenario._fields_:
-            number, most = getattr(self, name), 256 ** ctypes.sizeof(kind) - 1
-            if not isinstance(number, int) or isinstance(number, bool):
-                raise TypeError(f'{name} has to be a whole number (int), not {number!r}')
-            if not 0 <= number <= most:
-                raise ValueError(f'{name} has to be from 0 to {most}, not {number}')
+            _must_fit(name, kind, getattr(self, name))
 
 
 class Enclosure(NamedTuple):
@@ -126,6 +136,23 @@ class Enclosure(NamedTuple):
     median_high: int
     sigma_low: int
     sigma_high: int
+
+
+def _name(period):
+    """Return the name of a period: its seconds, or PGA for peak acceleration."""
+    return f'{period // 1000}.{period % 1000:03}' if period else 'PGA'
+
+
+class Rows(NamedTuple):
+    """The periods, in 0.001 s, of the two rows that an answer rests on, equal where it is one; 0 is the row PGA."""
+
+    lower: int
+    upper: int
+
+    def __str__(self):
+        if self.lower == self.upper:
+            return f'the row {_name(self.lower)}'
+        return f'between {_name(self.lower)} and {_name(self.upper)}'
 
 
 def c_scenario(scenario):
@@ -155,6 +182,24 @@ def _ends(answered):
 def refusal(scenario):
     """Return the number of the refusal of a scenario, 0 for none."""
     return LIBRARY.fusnoch_refusal(c_scenario(scenario))
+
+
+def rows(model, period):
+    """Return the rows that an answer of a model at a period rests on."""
+    _must_fit('model', c_uint8, model)
+    _must_fit('period', c_uint16, period)
+    periods = LIBRARY.fusnoch_rows(model, period)
+    _unless_refused(periods.number)
+    return Rows(periods.lower, periods.upper)
+
+
+def rows_words(model, period):
+    """Return the same in words, '0.070 s: between 0.050 and 0.075' or 'PGA: the row 0.010'; or the refusal's."""
+    try:
+        rested_on = rows(model, period)
+    except Refused as refused:
+        return str(refused)
+    return f'{_name(period)}{" s" if period else ""}: {rested_on}'
 
 
 def answer(scenario):

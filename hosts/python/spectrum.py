@@ -2,7 +2,7 @@
 """Print the spectrum of one earthquake by both models side by side.
 
 It is a vertical strike-slip fault whose rupture begins 3 km down, at a site 10 km beside it, so that the rupture is
-10.44 km away.
+10.44 km away.  Below the table stand the answers that have no row of their own.
 """
 
 import math
@@ -16,8 +16,10 @@ IDRISS = Scenario(fusnoch.IDRISS, magnitude=700, distance=1044, velocity=7600, m
 BOORE_ATKINSON = replace(IDRISS, model=fusnoch.BOORE_ATKINSON, distance=1000)
 
 # In 0.001 s; 0 is peak acceleration.
-PERIODS = (0, 10, 20, 30, 40, 50, 75, 100, 150, 200, 250, 300, 400, 500, 750, 1000, 1500, 2000, 3000, 4000, 5000, 7500,
-           10000)
+PERIODS = (0, 10, 20, 30, 40, 50, 70, 75, 100, 150, 200, 250, 300, 400, 500, 750, 1000, 1500, 2000, 3000, 4000, 5000,
+           7500, 10000)
+
+MODELS = {fusnoch.IDRISS: 'Idriss 2014', fusnoch.BOORE_ATKINSON: 'Boore and Atkinson 2008'}
 
 
 def hundredths(number):
@@ -50,13 +52,27 @@ g, rounded: exp of the middle of the median's ends, to four digits, for reading;
 period s | {columns} | {columns}'''
 
 
+def lies_between(model, period):
+    """Say whether an answer rests on two rows."""
+    try:
+        rows = fusnoch.rows(model, period)
+    except Refused:
+        return False
+    return rows.lower != rows.upper
+
+
 def main():
-    """Print the heading and a line for each period."""
+    """Print the heading, a line for each period, and the rows that each answer without one of its own rests on."""
     print(heading())
     for period in PERIODS:
         name = f'{period // 1000}.{period % 1000:03}' if period else 'PGA'
         idriss, boore_atkinson = (cell(replace(scenario, period=period)) for scenario in (IDRISS, BOORE_ATKINSON))
         print(f'{name:>8} | {idriss:58} | {boore_atkinson}')
+    print('\nBetween rows: answered from the two rows named, by the logarithm of the period')
+    for period in PERIODS:
+        for model, title in MODELS.items():
+            if lies_between(model, period):
+                print(f'{title}, {fusnoch.rows_words(model, period)}')
 
 
 if __name__ == '__main__':

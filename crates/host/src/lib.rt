@@ -1,57 +1,24 @@
 // The engine's functions as C calls them: plain structs, numbers and bytes in, plain structs and numbers out.
 ghost use mathlib.Core.Path.{_≡_};
 ghost use Rattle.scenario_theory.specs.Refusal.{refusalOf};
+ghost use Rattle.scenario_theory.specs.Neighbours.{rowPeriodsOf};
 ghost use Rattle.record_theory.specs.Outcome.{scenarioIn, readRefusal, readOf, writeOf, lentAfter};
 ghost use Rattle.engine_theory.specs.Evaluation.{answerOf, recordAnswerOf, inDoubles};
 ghost use Rattle.engine_theory.specs.Flat.{told};
-ghost use Rattle.host.specs.Told.{scenarioFrom, toldDoubles, toldReading, toldWriting};
-ghost use Rattle.host.specs.Promise.{HostAnswerPromise, HostDoublesPromise, HostReadingPromise};
-ghost use Rattle.host.specs.Promise.{HostWritingPromise};
+ghost use Rattle.host_theory.specs.Told.{scenarioFrom, toldPeriods, toldDoubles, toldReading, toldWriting};
+ghost use Rattle.host_theory.specs.Promise.{HostAnswerPromise, HostDoublesPromise, HostReadingPromise};
+ghost use Rattle.host_theory.specs.Promise.{HostWritingPromise, HostRowsPromise};
 use engine_theory::DoublesAnswer;
 use engine_theory::FlatAnswer;
+use host_theory::HostDoubles;
+use host_theory::HostPeriods;
+use host_theory::HostReading;
+use host_theory::HostScenario;
+use host_theory::HostWriting;
 use record_theory::Reading;
 use record_theory::Writing;
+use scenario_theory::RowPeriods;
 use scenario_theory::Scenario;
-
-// The fields of a scenario, whole numbers: magnitude in 0.01, distance in 0.01 km (to the rupture for model 1, Idriss
-// 2014; to its surface projection for model 2, Boore and Atkinson 2008), velocity V_S30 in 0.1 m/s, period in 0.001 s
-// (0 is peak acceleration). Mechanism: 0 strike-slip, 1 normal, 2 reverse, 3 reverse oblique, 4 other oblique,
-// 9 unspecified.
-#[repr(C)]
-pub struct HostScenario {
-    pub model: u8,
-    pub magnitude: u16,
-    pub distance: u16,
-    pub velocity: u16,
-    pub mechanism: u8,
-    pub period: u16,
-}
-
-// The same with the ends as doubles that equal the whole numbers, still in units of 10^-9.
-#[repr(C)]
-pub struct HostDoubles {
-    pub number: u8,
-    pub median_low: f64,
-    pub median_high: f64,
-    pub sigma_low: f64,
-    pub sigma_high: f64,
-}
-
-// What is read: number 0, the scenario and how many bytes its record has (the rest of the bytes comes after them); or
-// the number of the refusal, and zeros.
-#[repr(C)]
-pub struct HostReading {
-    pub number: u8,
-    pub scenario: HostScenario,
-    pub length: usize,
-}
-
-// What writing comes to: number 0 and how many bytes the record has; or the number of the refusal, and 0.
-#[repr(C)]
-pub struct HostWriting {
-    pub number: u8,
-    pub length: usize,
-}
 
 fn scenario_from(s: HostScenario) -> Scenario
     ensures { λ r. ⌜ r ≡ scenarioFrom s ⌝ }
@@ -95,8 +62,30 @@ pub extern "C" fn fusnoch_refusal(s: HostScenario) -> u8
     scenario::refusal(scenario_from(s))
 }
 
+// The rows of the model's tables that an answer at the period rests on, by their periods: so that nobody takes a value
+// between two rows for that of a row.
+#[no_mangle]
+pub extern "C" fn fusnoch_rows(model: u8, period: u16) -> HostPeriods
+    ensures { λ r. ⌜ r ≡ toldPeriods (rowPeriodsOf model period) ⌝ }
+    ensures { λ r. ⌜ HostRowsPromise model period r ⌝ }
+{
+    match scenario::row_periods(model, period) {
+        RowPeriods::Rows(lower, upper) => HostPeriods {
+            number: 0,
+            lower,
+            upper,
+        },
+        RowPeriods::Refused(number) => HostPeriods {
+            number,
+            lower: 0,
+            upper: 0,
+        },
+    }
+}
+
 // Answers a scenario of any fields: by Idriss 2014 the median's ends enclose its exact logarithm at most 100 units
-// apart, sigma's at most 10; by Boore and Atkinson 2008 at most 2,000 apart, and sigma's are equal.
+// apart, sigma's at most 10; by Boore and Atkinson 2008 at most 2,000 apart, and sigma's are equal. At a period that has
+// no row of its own, between two rows, it is twice as much, 200 and 4,000, and sigma's are at most 20 apart by both.
 #[no_mangle]
 pub extern "C" fn fusnoch_answer_fields(s: HostScenario) -> FlatAnswer
     ensures { λ r. ⌜ r ≡ told (answerOf (scenarioFrom s)) ⌝ }

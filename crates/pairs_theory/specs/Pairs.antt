@@ -11,7 +11,8 @@ use Rattle.boore_atkinson_theory.specs.SiteTerm.{bnl, nonlinearPart}
 use Rattle.engine_theory.specs.Models.{median, sigma}
 use Rattle.values_theory.specs.Table.{Check, cutAt, neg}
 
--- Idriss's median, by Table 3, and its sigma, for whole scenarios; Boore-Atkinson's slope, and its nonlinear part for
+-- Idriss's median, by Table 3, and its sigma, for whole scenarios; Boore-Atkinson's sigma between the rows 0.03 and
+-- 0.05 s (W-201); its slope, and its nonlinear part for
 -- stated p below ln 0.03, between it and ln 0.09, above that, and next to ln 0.03, where the pair reaches two branches
 abbrev pub pairs : List Check
 pairs =
@@ -27,6 +28,15 @@ pairs =
     cutAt 1 (sigma (scenarioOf (map some (1 ∷ 790 ∷ 0 ∷ 7_600 ∷ 0 ∷ 10_000 ∷ []))))
     (pos 768_439_766_029_309_477_059_054_586_042_377_574_019_942_972_295_097_723_757_826)
     (pos 768_463_099_362_642_810_392_387_919_375_710_907_353_276_305_628_431_057_091_160) ∷
+    cutAt 1 (sigma (scenarioOf (map some (2 ∷ 700 ∷ 1_000 ∷ 7_600 ∷ 2 ∷ 40 ∷ []))))
+    (pos 583_122_434_219_634_128_616_243_908_981_336_414_666_355_931_422_953_077_654_151)
+    (pos 583_525_630_930_782_510_233_265_939_046_937_452_297_432_735_696_347_627_328_278) ∷
+    cutAt 2 (sigma (scenarioOf (map some (2 ∷ 700 ∷ 1_000 ∷ 7_600 ∷ 2 ∷ 40 ∷ []))))
+    (pos 583_221_129_246_125_777_688_341_032_537_827_451_368_505_031_847_376_643_985_762)
+    (pos 583_422_717_612_795_884_608_301_101_228_607_896_428_236_131_251_571_737_343_811) ∷
+    cutAt 3 (sigma (scenarioOf (map some (2 ∷ 700 ∷ 1_000 ∷ 7_600 ∷ 2 ∷ 40 ∷ []))))
+    (pos 583_254_337_316_264_447_431_924_559_826_868_234_718_211_188_634_898_563_128_534)
+    (pos 583_388_728_327_458_651_542_458_165_983_453_290_566_966_601_723_809_462_137_911) ∷
     cutAt 1 (bnl (rowFor 200 .site) 2_500)
     (neg 307_829_260_096_899_777_806_628_433_574_455_248_285_214_556_042_732_546_153_886)
     (neg 307_734_954_334_209_285_167_555_141_012_452_424_098_980_745_345_827_469_255_427) ∷

@@ -7,8 +7,9 @@ use lib.IntN.{pos}
 use Rattle.interval_theory.specs.declared.SignedEnds.{SignedEnds}
 use Rattle.logarithm_theory.specs.Evaluation.{lnOf, rootOf}
 use Rattle.scenario_theory.specs.declared.Scenario.{Scenario}
-use Rattle.scenario_theory.specs.declared.Place.{Place}
 use Rattle.scenario_theory.specs.declared.Place.the-variants as P
+use Rattle.scenario_theory.specs.declared.Check.{Check}
+use Rattle.scenario_theory.specs.declared.Check.the-variants as C
 use Rattle.scenario_theory.specs.Refusal.{refusalOf}
 use Rattle.scenario_theory.specs.Rows.{rowCount, idrissPlace, booreAtkinsonPlace}
 use Rattle.idriss_theory.specs.Rows.{rowAt}
@@ -74,10 +75,10 @@ probedNonlinear k v low high =
 
 -- ---- where a period stands
 
-abbrev pub toldPlace : Place → ProbedPlace
-toldPlace (P.Row k) = record { kind = 0; row = k }
-toldPlace (P.Between k) = record { kind = 1; row = k }
-toldPlace P.Outside = record { kind = 2; row = 0 }
+abbrev pub toldPlace : Check → ProbedPlace
+toldPlace (C.Accepted (P.Row k)) = record { kind = 0; row = k }
+toldPlace (C.Accepted (P.Between k)) = record { kind = 1; row = k }
+toldPlace (C.Refused k) = record { kind = 2; row = 0 }
 
 unfoldable pub probedPlace : ℕ → ℕ → ProbedPlace
 probedPlace model period = toldPlace (cond (eqb model 1) (idrissPlace period) (booreAtkinsonPlace period))

@@ -3,8 +3,11 @@ ghost use mathlib.Core.Path.{_≡_};
 ghost use Prim.Native.Nat.{_^_, _<_};
 ghost use lib.ListN.{length, getD};
 ghost use Rattle.interval_theory.specs.Signed.{SmallerThan};
+ghost use Rattle.scenario_theory.specs.Refusal.{idriss};
+ghost use Rattle.scenario_theory.specs.Rows.{idrissRow, placeBy};
 ghost use Rattle.record_theory.specs.Outcome.{restOf};
 ghost use Rattle.idriss_theory.specs.Tables.{takesTable3};
+ghost use Rattle.idriss_theory.specs.Evaluation.{sigmaOf};
 ghost use Rattle.engine_theory.specs.Evaluation.{scenarioWith};
 ghost use Rattle.probes.specs.Probe.{isTaken, probedLn, probedRoot, noEnds, told, probedIdriss};
 ghost use Rattle.probes.specs.Probe.{probedIdrissSigma, probedBooreAtkinson, probedBooreAtkinsonSigma};
@@ -66,13 +69,15 @@ pub extern "C" fn probe_root(x: u64) -> u64
     logarithm::root(x)
 }
 
-fn tell_place(p: Place) -> ProbedPlace
-    ensures { λ r. ⌜ r ≡ toldPlace p ⌝ }
+fn tell_place(c: Check) -> ProbedPlace
+    ensures { λ r. ⌜ r ≡ toldPlace c ⌝ }
 {
-    match p {
-        Place::Row(row) => ProbedPlace { kind: 0, row },
-        Place::Between(row) => ProbedPlace { kind: 1, row },
-        Place::Outside => ProbedPlace { kind: 2, row: 0 },
+    match c {
+        Check::Accepted(p) => match p {
+            Place::Row(row) => ProbedPlace { kind: 0, row },
+            Place::Between(row) => ProbedPlace { kind: 1, row },
+        },
+        Check::Refused(_) => ProbedPlace { kind: 2, row: 0 },
     }
 }
 
@@ -187,6 +192,17 @@ pub extern "C" fn probe_idriss(
     none()
 }
 
+// Sigma of Idriss at an accepted period, whose place is p.
+fn idriss_sigma(p: Place, period: u16, magnitude: u16) -> SignedEnds
+    requires { ⌜ p ≡ placeBy idriss idrissRow period ⌝ }
+    ensures { λ r. ⌜ (r ≡ sigmaOf period magnitude) × SmallerThan (2 ^ 53) r ⌝ }
+{
+    match p {
+        Place::Row(k) => idriss::sigma(k, period, magnitude),
+        Place::Between(_) => idriss::sigma_between(period, magnitude),
+    }
+}
+
 // Sigma of Idriss.
 #[no_mangle]
 pub extern "C" fn probe_idriss_sigma(period: u16, magnitude: u16) -> ProbedEnds
@@ -201,7 +217,7 @@ pub extern "C" fn probe_idriss_sigma(period: u16, magnitude: u16) -> ProbedEnds
         period,
     };
     match scenario::check(s) {
-        Check::Accepted(k) => tell(idriss::sigma(k, period, magnitude)),
+        Check::Accepted(p) => tell(idriss_sigma(p, period, magnitude)),
         Check::Refused(_) => none(),
     }
 }

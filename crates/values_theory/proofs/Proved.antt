@@ -13,11 +13,11 @@ use Rattle.exact_theory.specs.Logarithm.{harmonic, lowerSum, upperSum, lnPair}
 use Rattle.exact_theory.specs.Root.{greatest, wholeRoot, rootValues, rootPair}
 use Rattle.exact_theory.specs.Formula.{Formula, eval, Defined}
 use Rattle.exact_theory.proofs.DefinedTest.{sound, defined}
-use Rattle.scenario_theory.specs.Refusal.{refusalBy, refusalOf}
+use Rattle.scenario_theory.specs.Refusal.{isOutside, refusalBy, refusalOf}
 use Rattle.record_theory.specs.Layout.{sizeOf, numbersOf, absentWritten}
 use Rattle.record_theory.specs.Outcome.{readingNumber, readingValues, scenarioIn, lengthBy, mapRefusal, readRefusal}
 use Rattle.record_theory.specs.Outcome.{readOf}
-use Rattle.idriss_theory.specs.Tables.{takesTable3, rowFor}
+use Rattle.idriss_theory.specs.Tables.{takesTable3, rowIn}
 use Rattle.idriss_theory.specs.Median.{alphaPart, betaFactor}
 use Rattle.boore_atkinson_theory.specs.Tables.{rowFor as secondRowFor}
 use Rattle.boore_atkinson_theory.specs.SiteTerm.{bnl}
@@ -80,10 +80,10 @@ holds (reads s xs) t = search (and-left, and-right, eqb→eq, same-list)
 -- ---- all of them
 
 all-pass : T (every (λ k c. passes c) 0 values)
-unfolding passes matches constant lnConstant when merged zeroOver positive rowFor secondRowFor takesTable3 bnl
+unfolding passes matches constant lnConstant when merged zeroOver positive rowIn secondRowFor takesTable3 bnl
     alphaPart betaFactor _-q_ _*q_ sound same sameList eval lnPair lowerSum upperSum harmonic rootPair rootValues
     wholeRoot greatest leQ zeroQ negQ _+q_ _over_ readOf readRefusal mapRefusal scenarioIn lengthBy numbersOf sizeOf
-    absentWritten refusalOf refusalBy
+    absentWritten refusalOf refusalBy isOutside
 all-pass = tt
 
 pub all-hold : AllHold values

@@ -1,12 +1,16 @@
 //! Prints the spectrum of one earthquake by both models side by side: a vertical strike-slip fault whose rupture begins
-//! 3 km down, at a site 10 km beside it, so that the rupture is 10.44 km away.
+//! 3 km down, at a site 10 km beside it, so that the rupture is 10.44 km away. Below the table stand the answers that
+//! have no row of their own.
 
 use fusnoch::{Scenario, BOORE_ATKINSON, IDRISS};
 
 /// In 0.001 s; 0 is peak acceleration.
-const PERIODS: [u16; 23] = [
-    0, 10, 20, 30, 40, 50, 75, 100, 150, 200, 250, 300, 400, 500, 750, 1000, 1500, 2000, 3000, 4000, 5000, 7500, 10000,
+const PERIODS: [u16; 24] = [
+    0, 10, 20, 30, 40, 50, 70, 75, 100, 150, 200, 250, 300, 400, 500, 750, 1000, 1500, 2000, 3000, 4000, 5000, 7500,
+    10000,
 ];
+
+const MODELS: [(u8, &str); 2] = [(IDRISS, "Idriss 2014"), (BOORE_ATKINSON, "Boore and Atkinson 2008")];
 
 /// A positive number to four digits.
 fn four_digits(number: f64) -> String {
@@ -52,6 +56,18 @@ fn print_heading(idriss: &Scenario, boore_atkinson: &Scenario) {
     println!("{:>8} | {} | {}", "period s", columns, columns);
 }
 
+/// The two rows that each answer without a row of its own rests on.
+fn print_between() {
+    println!("\nBetween rows: answered from the two rows named, by the logarithm of the period");
+    for period in PERIODS {
+        for (model, title) in MODELS {
+            if fusnoch::rows(model, period).map_or(false, |rows| rows.lower != rows.upper) {
+                println!("{}, {}", title, fusnoch::rows_words(model, period));
+            }
+        }
+    }
+}
+
 fn main() {
     // Each model has its own distance: to the rupture, and to its surface projection.
     let idriss = Scenario { model: IDRISS, magnitude: 700, distance: 1044, velocity: 7600, mechanism: 0, period: 0 };
@@ -65,4 +81,5 @@ fn main() {
         let cells = [idriss, boore_atkinson].map(|scenario| cell(&Scenario { period, ..scenario }));
         println!("{:>8} | {:58} | {}", name, cells[0], cells[1]);
     }
+    print_between();
 }

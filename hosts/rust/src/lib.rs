@@ -33,6 +33,33 @@ pub struct Enclosure<End = i64> {
     pub sigma_high: End,
 }
 
+/// The periods, in 0.001 s, of the two rows that an answer rests on, equal where it is one; 0 is the row PGA. Shown, it
+/// is `between 0.050 and 0.075` or `the row 0.075`.
+#[repr(C)]
+#[derive(Clone, Copy, Debug, PartialEq, Eq)]
+pub struct Rows {
+    pub lower: u16,
+    pub upper: u16,
+}
+
+/// The name of a period: its seconds, or PGA for peak acceleration.
+fn name(period: u16) -> String {
+    match period {
+        0 => String::from("PGA"),
+        _ => format!("{}.{:03}", period / 1000, period % 1000),
+    }
+}
+
+impl fmt::Display for Rows {
+    fn fmt(&self, f: &mut fmt::Formatter) -> fmt::Result {
+        if self.lower == self.upper {
+            write!(f, "the row {}", name(self.lower))
+        } else {
+            write!(f, "between {} and {}", name(self.lower), name(self.upper))
+        }
+    }
+}
+
 /// The number of a refusal, 1 to 12; shown, it is the words for it.
 #[derive(Clone, Copy, Debug, PartialEq, Eq)]
 pub struct Refusal(pub u8);
@@ -44,7 +71,7 @@ const WORDS: [&str; 13] = [
     "distance: beyond the model's limits",
     "velocity: beyond the model's limits",
     "mechanism: not a code of the model",
-    "period: neither 0 nor tabled for the model",
+    "period: neither 0 nor from 10 to 10000",
     "cut short: no map byte, or fewer bytes than the map calls for",
     "spare bit: bit 6 or 7 stands",
     "wanting: bit 0, 1 or 2 is clear",
@@ -63,12 +90,18 @@ impl std::error::Error for Refusal {}
 
 /// The functions of fusnoch.h.
 mod raw {
-    use super::{Enclosure, Scenario};
+    use super::{Enclosure, Rows, Scenario};
 
     #[repr(C)]
     pub struct Answer<End> {
         pub number: u8,
         pub ends: Enclosure<End>,
+    }
+
+    #[repr(C)]
+    pub struct Periods {
+        pub number: u8,
+        pub rows: Rows,
     }
 
     #[repr(C)]
@@ -86,6 +119,7 @@ mod raw {
 
     extern "C" {
         pub fn fusnoch_refusal(s: Scenario) -> u8;
+        pub fn fusnoch_rows(model: u8, period: u16) -> Periods;
         pub fn fusnoch_answer_fields(s: Scenario) -> Answer<i64>;
         pub fn fusnoch_answer_record(bytes: *const u8, length: usize) -> Answer<i64>;
         pub fn fusnoch_answer_fields_in_doubles(s: Scenario) -> Answer<f64>;
@@ -108,6 +142,22 @@ fn unless_refused<T>(number: u8, result: T) -> Result<T, Refusal> {
 /// The refusal of a scenario, without answering it.
 pub fn check(scenario: &Scenario) -> Result<(), Refusal> {
     unless_refused(unsafe { raw::fusnoch_refusal(*scenario) }, ())
+}
+
+/// The rows that an answer of a model at a period rests on.
+pub fn rows(model: u8, period: u16) -> Result<Rows, Refusal> {
+    let periods = unsafe { raw::fusnoch_rows(model, period) };
+    unless_refused(periods.number, periods.rows)
+}
+
+/// The same in words, `0.070 s: between 0.050 and 0.075` or `PGA: the row 0.010`; or the refusal,
+/// `refusal 1, model: neither 1 nor 2`.
+pub fn rows_words(model: u8, period: u16) -> String {
+    let unit = if period == 0 { "" } else { " s" };
+    match rows(model, period) {
+        Ok(rows) => format!("{}{}: {}", name(period), unit, rows),
+        Err(refusal) => format!("refusal {}, {}", refusal.0, refusal),
+    }
 }
 
 pub fn answer(scenario: &Scenario) -> Result<Enclosure, Refusal> {

@@ -1,7 +1,7 @@
 -- `fusnoch_answer_fields_in_doubles` meets its contract.
 use borrow.Author.Needs.{needs}
 use Rattle.engine_theory.specs.Evaluation.{answerOf}
-use Rattle.host.proofs.Laws.{doubles-answers}
+use Rattle.host_theory.proofs.Laws.{doubles-answers}
 use Rattle.host.proofs.fusnoch_answer_fields_in_doubles.Statement.{statement}
 use Rattle.host.proofs.fusnoch_answer_fields_in_doubles.Tie as tie
 

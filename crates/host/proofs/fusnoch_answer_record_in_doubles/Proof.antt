@@ -3,8 +3,8 @@ use mathlib.Core.Path.{ap, _∙_}
 use borrow.Author.Needs.{needs}
 use Rattle.engine_theory.specs.Evaluation.{recordAnswerOf}
 use Rattle.engine_theory.proofs.RecordLaws.{read-accepted}
-use Rattle.host.specs.Told.{toldDoubles}
-use Rattle.host.proofs.Laws.{doubles-answers}
+use Rattle.host_theory.specs.Told.{toldDoubles}
+use Rattle.host_theory.proofs.Laws.{doubles-answers}
 use Rattle.host.proofs.fusnoch_answer_record_in_doubles.Statement.{statement}
 use Rattle.host.proofs.fusnoch_answer_record_in_doubles.Tie as tie
 

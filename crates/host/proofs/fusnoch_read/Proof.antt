@@ -1,8 +1,8 @@
 -- `fusnoch_read` meets its contract.
 use mathlib.Core.Path.{ap, sym, _∙_}
 use borrow.Author.Needs.{needs}
-use Rattle.host.specs.Told.{toldReading}
-use Rattle.host.proofs.Laws.{reads}
+use Rattle.host_theory.specs.Told.{toldReading}
+use Rattle.host_theory.proofs.Laws.{reads}
 use Rattle.host.proofs.fusnoch_read.Statement.{statement}
 use Rattle.host.proofs.fusnoch_read.Tie as tie
 

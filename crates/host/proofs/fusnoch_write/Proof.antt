@@ -1,8 +1,8 @@
 -- `fusnoch_write` meets its contract.
 use mathlib.Core.Path.{ap, sym, _∙_}
 use borrow.Author.Needs.{needs}
-use Rattle.host.specs.Told.{toldWriting}
-use Rattle.host.proofs.Laws.{writes}
+use Rattle.host_theory.specs.Told.{toldWriting}
+use Rattle.host_theory.proofs.Laws.{writes}
 use Rattle.host.proofs.fusnoch_write.Statement.{statement}
 use Rattle.host.proofs.fusnoch_write.Tie as tie
 

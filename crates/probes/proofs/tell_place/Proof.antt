@@ -8,6 +8,7 @@ pub tell-place-spec : {M : Type 1} → statement M
 tell-place-spec =
     tie.close
     (tie.spec
-    (λ c. search needs) (λ c. search needs) (λ c. search needs)
-    (λ c. rw (c .before .p .given .1) refl) (λ c. rw (c .before .p2 .given .1) refl)
+    (λ c. search needs) (λ c. search needs) (λ c. search needs) (λ c. search needs)
+    (λ c. rw (c .before .before .before .before .c .given .1, c .before .p .given .1) refl)
+    (λ c. rw (c .before .before .before .before .c .given .1, c .before .p2 .given .1) refl)
     (λ c. rw (c .enum-told .given .1) refl))

@@ -5,7 +5,7 @@ use std::fmt::Display;
 use std::io::{self, BufRead, Write};
 use std::process::ExitCode;
 
-use fusnoch::{Enclosure, Refusal, Scenario};
+use fusnoch::{Enclosure, Refusal, Rows, Scenario};
 
 fn take_bytes(text: &str) -> Option<Box<[u8]>> {
     if text == "-" {
@@ -43,6 +43,13 @@ fn show_bytes(bytes: &[u8]) -> String {
 fn show_answer<End: Display>(answer: Result<Enclosure<End>, Refusal>) -> String {
     match answer {
         Ok(e) => format!("E {} {} {} {}", e.median_low, e.median_high, e.sigma_low, e.sigma_high),
+        Err(refusal) => format!("R {}", refusal.0),
+    }
+}
+
+fn show_rows(rows: Result<Rows, Refusal>) -> String {
+    match rows {
+        Ok(rows) => format!("T {} {}", rows.lower, rows.upper),
         Err(refusal) => format!("R {}", refusal.0),
     }
 }
@@ -91,6 +98,8 @@ fn answer(line: &str) -> Option<String> {
     Some(match (words[0], &words[1..]) {
         ("null", []) => format!("{} {}", show_null(&mut []), show_null(&mut [0x37; 9][9..])),
         ("words", [number]) => Refusal(number.parse().ok()?).to_string(),
+        ("rows", [model, period]) => show_rows(fusnoch::rows(model.parse().ok()?, period.parse().ok()?)),
+        ("rows_words", [model, period]) => fusnoch::rows_words(model.parse().ok()?, period.parse().ok()?),
         ("read", [bytes]) => show_reading(&take_bytes(bytes)?),
         ("answer_record", [bytes]) => show_answer(fusnoch::answer_record(&take_bytes(bytes)?)),
         ("doubles_record", [bytes]) => show_answer(fusnoch::answer_record_in_doubles(&take_bytes(bytes)?)),

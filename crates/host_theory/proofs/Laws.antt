@@ -19,11 +19,11 @@ use Rattle.engine_theory.specs.Flat.{told}
 use Rattle.engine_theory.proofs.Exact.{equals}
 use Rattle.engine_theory.proofs.Laws.{promised, small, in-doubles}
 use Rattle.engine_theory.proofs.FlatLaws.{told-promised}
-use Rattle.host.specs.declared.HostDoubles.{HostDoubles}
-use Rattle.host.specs.declared.HostReading.{HostReading}
-use Rattle.host.specs.declared.HostWriting.{HostWriting}
-use Rattle.host.specs.Told.{toldDoubles, toldReading, toldWriting, zeroDouble}
-use Rattle.host.specs.Promise.{HostDoublesPromise, HostReadingPromise, HostWritingPromise}
+use Rattle.host_theory.specs.declared.HostDoubles.{HostDoubles}
+use Rattle.host_theory.specs.declared.HostReading.{HostReading}
+use Rattle.host_theory.specs.declared.HostWriting.{HostWriting}
+use Rattle.host_theory.specs.Told.{toldDoubles, toldReading, toldWriting, zeroDouble}
+use Rattle.host_theory.specs.Promise.{HostDoublesPromise, HostReadingPromise, HostWritingPromise}
 
 zero-equals : engine.Equals zeroDouble (pos 0)
 unfolding ofBits ofInt

@@ -1,20 +1,25 @@
 -- What is promised of the structs that C is told, whatever the engine computes: demand 3 once more, by their numbers
 -- and ends, and demand 2 for reading and writing.
 use mathlib.Core.Path.{_≡_}
+use mathlib.Core.Bool.{not, _||_}
 use mathlib.Core.List.{List, [], _∷_}
-use Prim.Native.Nat.{ℕ}
+use Prim.Native.Nat.{ℕ, _≤_}
+use lib.Dec.{eqb}
 use lib.Ieee.{Float}
 use lib.ListN.{length}
 use Rattle.scenario_theory.specs.declared.Scenario.{Scenario}
+use Rattle.scenario_theory.specs.Checks.{_when_, _otherwise_}
+use Rattle.scenario_theory.specs.Refusal.{isOutside}
 use Rattle.record_theory.specs.Layout.{recordOf}
 use Rattle.record_theory.specs.Outcome.{mapIn, scenarioIn, lengthBy, readRefusal, writeRefusal}
 use Rattle.engine_theory.specs.declared.FlatAnswer.{FlatAnswer}
 use Rattle.engine_theory.specs.Promise.{AllEqual}
 use Rattle.engine_theory.specs.Flat.{endsIn, FlatPromise}
-use Rattle.host.specs.declared.HostDoubles.{HostDoubles}
-use Rattle.host.specs.declared.HostReading.{HostReading}
-use Rattle.host.specs.declared.HostWriting.{HostWriting}
-use Rattle.host.specs.Told.{scenarioFrom, noFields}
+use Rattle.host_theory.specs.declared.HostDoubles.{HostDoubles}
+use Rattle.host_theory.specs.declared.HostPeriods.{HostPeriods}
+use Rattle.host_theory.specs.declared.HostReading.{HostReading}
+use Rattle.host_theory.specs.declared.HostWriting.{HostWriting}
+use Rattle.host_theory.specs.Told.{scenarioFrom, noFields}
 
 -- "Hosts with binary64 get the four ends as doubles", in the same order
 abbrev pub doublesIn : HostDoubles → List Float
@@ -42,3 +47,11 @@ pub record HostWritingPromise (x : Scenario) (lent : List ℕ) (r : HostWriting)
   pub number : r .number ≡ writeRefusal x lent
   pub written : writeRefusal x lent ≡ 0 → r .length ≡ length (recordOf x)
   pub zero : (writeRefusal x lent ≡ 0 → ⊥) → r .length ≡ 0
+
+-- the rows of an answer by a model at T: the number is 1 or 6 as of a scenario, and T lies from the one period to the
+-- other, but that 0 is peak acceleration; with a refusal they are zeros
+pub record HostRowsPromise (model T : ℕ) (r : HostPeriods) : Type 0 where
+  pub number : r .number ≡ (1 when not (eqb model 1 || eqb model 2) otherwise 6 when isOutside T)
+  pub below : r .number ≡ 0 → 1 ≤ T → r .lower ≤ T
+  pub above : r .number ≡ 0 → 1 ≤ T → T ≤ r .upper
+  pub zeros : (r .number ≡ 0 → ⊥) → (r .lower ≡ 0) × (r .upper ≡ 0)

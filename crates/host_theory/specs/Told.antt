@@ -2,16 +2,19 @@
 -- writings. An enum does not pass, so a refused one is the number with zeros, and an accepted one has the number 0.
 use lib.Ieee.{Float, binary64, ofBits}
 use Rattle.scenario_theory.specs.declared.Scenario.{Scenario}
+use Rattle.scenario_theory.specs.declared.RowPeriods.{RowPeriods}
+use Rattle.scenario_theory.specs.declared.RowPeriods.the-variants as P
 use Rattle.record_theory.specs.declared.Reading.{Reading}
 use Rattle.record_theory.specs.declared.Reading.the-variants as R
 use Rattle.record_theory.specs.declared.Writing.{Writing}
 use Rattle.record_theory.specs.declared.Writing.the-variants as W
 use Rattle.engine_theory.specs.declared.DoublesAnswer.{DoublesAnswer}
 use Rattle.engine_theory.specs.declared.DoublesAnswer.the-variants as D
-use Rattle.host.specs.declared.HostScenario.{HostScenario}
-use Rattle.host.specs.declared.HostDoubles.{HostDoubles}
-use Rattle.host.specs.declared.HostReading.{HostReading}
-use Rattle.host.specs.declared.HostWriting.{HostWriting}
+use Rattle.host_theory.specs.declared.HostScenario.{HostScenario}
+use Rattle.host_theory.specs.declared.HostDoubles.{HostDoubles}
+use Rattle.host_theory.specs.declared.HostPeriods.{HostPeriods}
+use Rattle.host_theory.specs.declared.HostReading.{HostReading}
+use Rattle.host_theory.specs.declared.HostWriting.{HostWriting}
 
 -- document 01, 'The scenario'
 abbrev pub scenarioFrom : HostScenario → Scenario
@@ -26,7 +29,7 @@ scenarioFrom s =
     }
 
 -- and back
-abbrev fieldsOf : Scenario → HostScenario
+abbrev pub fieldsOf : Scenario → HostScenario
 fieldsOf x =
     record {
       model = x .model;
@@ -61,6 +64,11 @@ toldDoubles (D.Refused k) = record {
   «sigma_low» = zeroDouble;
   «sigma_high» = zeroDouble;
 }
+
+-- the periods of the rows that an answer rests on (W-201)
+abbrev pub toldPeriods : RowPeriods → HostPeriods
+toldPeriods (P.Rows lower upper) = record { number = 0; lower = lower; upper = upper }
+toldPeriods (P.Refused k) = record { number = k; lower = 0; upper = 0 }
 
 -- "Reading hands back the scenario and the rest of the caller's bytes": the rest begins at the record's length
 abbrev pub toldReading : Reading → HostReading
