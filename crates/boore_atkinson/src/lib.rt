@@ -1,24 +1,21 @@
 // The median and sigma of Boore and Atkinson 2008, each by two ends that enclose the exact value, in units of 10^-9.
 ghost use mathlib.Core.Path.{_≡_};
 ghost use mathlib.Core.Bool.{cond};
-ghost use mathlib.Core.List.{_∷_};
 ghost use Prim.Native.Nat.{_+_, _≤_, _<_};
 ghost use lib.Dec.{eqb};
-ghost use Rattle.interpolation_theory.specs.Steps.{StepAt};
-ghost use Rattle.scenario_theory.specs.Refusal.{booreAtkinson};
+ghost use Rattle.interpolation_theory.specs.Evaluation.{twoRowsOf};
 ghost use Rattle.scenario_theory.specs.Rows.{rowCount};
 ghost use Rattle.boore_atkinson_theory.specs.Rows.{rowAt, totalAt};
 ghost use Rattle.boore_atkinson_theory.specs.Promise.{MedianDomain, MedianEnds, NonlinearDomain, NonlinearEnds};
-ghost use Rattle.boore_atkinson_theory.specs.Promise.{MedianBetweenEnds, SigmaEnds, SigmaBetweenEnds};
+ghost use Rattle.boore_atkinson_theory.specs.Promise.{SigmaEnds};
 ghost use Rattle.boore_atkinson_theory.specs.Evaluation.{vs30LnOf, minusPFor, medianPairOf, medianOf, nonlinearEndsOf};
-ghost use Rattle.boore_atkinson_theory.specs.Evaluation.{medianBetweenOf, exactPair, sigmaPairOf, sigmaOf};
-ghost use Rattle.boore_atkinson_theory.specs.Evaluation.{sigmaBetweenOf};
+ghost use Rattle.boore_atkinson_theory.specs.Evaluation.{exactPair, sigmaPairOf, sigmaOf};
 use boore_atkinson_rock as rock;
 use boore_atkinson_site as site;
 use boore_atkinson_tables as table;
 use boore_atkinson_theory::TotalRow;
-use interpolation::interpolated;
-use interpolation_theory::Step;
+use interpolation::no_pair;
+use interpolation_theory::TwoRows;
 use interval::between;
 use interval::ends;
 use interval::plus;
@@ -70,31 +67,33 @@ pub fn median(
     ends(median_by_row(k, m, d, v, l, b, mechanism))
 }
 
-// The median between row k, which is not PGA, and the next, by the step from one to the other.
-pub fn median_between(
+// The medians by the rows from k to last. What rows have in common is worked out once: p and ln(V/760).
+pub fn median_rows(
     k: usize,
+    last: usize,
     magnitude: u16,
     projection_distance: u16,
     vs30: u16,
     mechanism: u8,
-    s: Step,
-) -> SignedEnds
-    requires { ⌜ MedianDomain (k + 1) magnitude «projection_distance» vs30 ⌝ }
-    requires { ⌜ (1 ≤ k) × StepAt (0 ∷ booreAtkinson .periods) k s ⌝ }
-    ensures { λ r. ⌜ r ≡ medianBetweenOf (rowAt k) (rowAt (k + 1)) s magnitude «projection_distance» vs30 mechanism ⌝ }
-    ensures { λ r. ⌜ MedianBetweenEnds (rowAt k) (rowAt (k + 1)) s magnitude «projection_distance» vs30 mechanism r ⌝ }
+) -> TwoRows
+    requires { ⌜ MedianDomain last magnitude «projection_distance» vs30 × (k ≤ last) ⌝ }
+    ensures { λ r. ⌜ r ≡ twoRowsOf k last (λ j. medianPairOf (rowAt j) magnitude «projection_distance» vs30
+        mechanism) ⌝ }
 {
     let m = magnitude as u64;
     let d = projection_distance as u64;
     let v = vs30 as u64;
     let b = rock::minus_p_for(v, m, d, mechanism);
     let l = site::vs30_ln(v);
-    interpolated(
-        median_by_row(k, m, d, v, l, b, mechanism),
-        median_by_row(k + 1, m, d, v, l, b, mechanism),
-        s.part,
-        s.whole,
-    )
+    let mut lower = no_pair();
+    let mut upper = no_pair();
+    let mut i = k;
+    while i <= last {
+        lower = upper;
+        upper = median_by_row(i, m, d, v, l, b, mechanism);
+        i += 1;
+    }
+    TwoRows { lower, upper }
 }
 
 // The nonlinear part by row k, where −p lies in b.
@@ -135,6 +134,7 @@ pub fn sigma(k: usize, mechanism: u8) -> SignedEnds
     between(z, 0, z, 0)
 }
 
+// Equal ends that are not below zero, as a gain.
 fn exact_pair(n: u64) -> SignedPair
     ensures { λ a. ⌜ a ≡ exactPair n ⌝ }
 {
@@ -144,16 +144,13 @@ fn exact_pair(n: u64) -> SignedPair
     }
 }
 
-// Sigma between row k, which is not PGA, and the next, by the step from one to the other.
-pub fn sigma_between(k: usize, mechanism: u8, s: Step) -> SignedEnds
-    requires { ⌜ (1 ≤ k) × (k + 1 < rowCount) × StepAt (0 ∷ booreAtkinson .periods) k s ⌝ }
-    ensures { λ r. ⌜ r ≡ sigmaBetweenOf (totalAt k) (totalAt (k + 1)) s mechanism ⌝ }
-    ensures { λ r. ⌜ SigmaBetweenEnds (totalAt k) (totalAt (k + 1)) s mechanism r ⌝ }
+// Sigma by the rows k and k + 1.
+pub fn sigma_rows(k: usize, mechanism: u8) -> TwoRows
+    requires { ⌜ k + 1 < rowCount ⌝ }
+    ensures { λ r. ⌜ r ≡ twoRowsOf k (k + 1) (λ j. sigmaPairOf (totalAt j) mechanism) ⌝ }
 {
-    interpolated(
-        exact_pair(sigma_by_row(k, mechanism)),
-        exact_pair(sigma_by_row(k + 1, mechanism)),
-        s.part,
-        s.whole,
-    )
+    TwoRows {
+        lower: exact_pair(sigma_by_row(k, mechanism)),
+        upper: exact_pair(sigma_by_row(k + 1, mechanism)),
+    }
 }

@@ -182,11 +182,18 @@ fn curve(b: Ends) -> Ends
     hull(exact(0), u)
 }
 
-// The nonlinear part, where l is the absolute value of ln(V/760), and −p lies in b.
+// The nonlinear part, where l is the absolute value of ln(V/760), and −p lies in b. From 760 m/s on the slope is 0, and
+// only the roundings are left.
 pub fn nonlinear_part(s: SiteRow, v: u64, l: Ends, b: Ends) -> SignedPair
     requires { ⌜ SiteLimits s × (V1 ≤ v) × (l ≡ vs30LnOf v) × (b .low ≤ b .high) ⌝ }
     ensures { λ a. ⌜ (a ≡ nonlinearOf s v b) × SignedSized a nonlinearMost nonlinearMost ⌝ }
 {
+    if 7_600 <= v {
+        return SignedPair {
+            gain: Ends { low: 0, high: 1 },
+            loss: Ends { low: 0, high: 1 },
+        };
+    }
     let n = slope(s, v, l);
     SignedPair {
         gain: product(n, MINUS_LN_LOW),

@@ -1,5 +1,5 @@
 -- What the code puts together is what the evaluation has.
-use mathlib.Core.Path.{_≡_, refl}
+use mathlib.Core.Path.{_≡_, refl, sym, _∙_}
 use Prim.Native.Nat.{ℕ, _≤_, _<_}
 use native.Mathlib.Decide.{decLe}
 use native.Mathlib.Nat.{zero-mul}
@@ -39,15 +39,18 @@ module _ (b t A B : Ends) {r : Ends} where
 
 -- ---- where p has no part
 
--- from 760 m/s on the slope is 0, and the nonlinear part is the same for every p
-flat : (s : SiteRow) (v : ℕ) (b c : Ends) → Vref ≤ v → nonlinearOf s v b ≡ nonlinearOf s v c
+-- from 760 m/s on the slope is 0, and the nonlinear part, for every p, is what the roundings leave
+abbrev one : Ends
+one = record { low = 0; high = 1 }
+
+pub flat : (s : SiteRow) (v : ℕ) (b : Ends) → Vref ≤ v → record { gain = one; loss = one } ≡ nonlinearOf s v b
 unfolding nonlinearOf slopeOf productOf
-flat s v b c h = rw (lt-leb v V1 (omega arith), lt-leb v V2 (omega arith), le-ltb v Vref h) (simp zero-mul)
+flat s v b h = rw (lt-leb v V1 (omega arith), lt-leb v V2 (omega arith), le-ltb v Vref h) (simp zero-mul)
 
 pub minus-p-for : (s : SiteRow) (v m d mechanism : ℕ) →
     nonlinearOf s v (minusPFor v m d mechanism) ≡ nonlinearOf s v (minusPOf m d mechanism)
 unfolding minusPFor
 minus-p-for s v m d mechanism = elim (decLe flatFrom v) [
-  | yes h ↦ flat s v _ _ h
+  | yes h ↦ sym (flat s v _ h) ∙ flat s v _ h
   | no h ↦ rw (lt-leb flatFrom v (omega arith)) refl
 ]

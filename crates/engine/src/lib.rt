@@ -1,14 +1,14 @@
 // Answers a scenario, from its fields or from its record, with ends of median and sigma that enclose the exact values,
 // in whole units of 10^-9 or in doubles, or with the number of its refusal.
 ghost use mathlib.Core.Path.{_≡_};
-ghost use Prim.Native.Nat.{_^_, _<_};
+ghost use Prim.Native.Nat.{_+_, _^_, _<_};
 ghost use lib.IntN.{natAbs};
 ghost use Rattle.scenario_theory.specs.declared.Place.the-variants as P;
 ghost use Rattle.scenario_theory.specs.Refusal.{idriss, booreAtkinson, refusalOf};
-ghost use Rattle.scenario_theory.specs.Rows.{idrissRow, booreAtkinsonRow, Looked};
+ghost use Rattle.scenario_theory.specs.Rows.{rowCount, idrissRow, booreAtkinsonRow, Looked};
 ghost use Rattle.record_theory.specs.Outcome.{scenarioIn, readRefusal};
 ghost use Rattle.engine_theory.specs.Promise.{AnswerPromise, NextPromise, DoublesPromise};
-ghost use Rattle.engine_theory.specs.Steps.{TakenBy};
+ghost use Rattle.engine_theory.specs.Steps.{TakenBy, firstIn, lastIn, idrissRowsOf, booreAtkinsonRowsOf};
 ghost use Rattle.engine_theory.specs.Evaluation.{scenarioWith, enclosureOf, answerOf, recordAnswerOf, nextOf};
 ghost use Rattle.engine_theory.specs.Evaluation.{SmallEnclosure, doubleOf, doublesOf, inDoubles};
 pub use engine_theory::Answer;
@@ -16,6 +16,9 @@ pub use engine_theory::Doubles;
 pub use engine_theory::DoublesAnswer;
 pub use engine_theory::Enclosure;
 pub use engine_theory::NextAnswer;
+use interpolation::interpolated;
+use interpolation_theory::TwoRows;
+use interval::ends;
 use record_theory::PlacedReading;
 use scenario_rows::boore_atkinson_period;
 use scenario_rows::idriss_period;
@@ -23,24 +26,46 @@ use scenario_theory::Check;
 use scenario_theory::Place;
 use scenario_theory::Scenario;
 
-// By Idriss, between row k and the next.
-fn between_idriss(s: Scenario, k: usize) -> Enclosure
-    requires { ⌜ TakenBy 1 idriss idrissRow s (P.Between k) ⌝ }
+// The first and the last of the rows of a place.
+fn first_row(place: Place) -> usize
+    ensures { λ r. ⌜ r ≡ firstIn place ⌝ }
+{
+    match place {
+        Place::Row(k) => k,
+        Place::Between(k) => k,
+    }
+}
+
+fn last_row(place: Place) -> usize
+    requires { ⌜ lastIn place < rowCount ⌝ }
+    ensures { λ r. ⌜ r ≡ lastIn place ⌝ }
+{
+    match place {
+        Place::Row(k) => k,
+        Place::Between(k) => k + 1,
+    }
+}
+
+// By Idriss between row k and the next, with the medians by these.
+fn between_idriss(s: Scenario, k: usize, rows: TwoRows) -> Enclosure
+    requires { ⌜ TakenBy 1 idriss idrissRow s (P.Between k) × (rows ≡ idrissRowsOf s k (k + 1)) ⌝ }
     ensures { λ r. ⌜ r ≡ enclosureOf s ⌝ }
 {
     let step = interpolation::step(idriss_period(k), s.period, idriss_period(k + 1));
-    let table_3 = idriss::takes_table_3(s.magnitude);
     Enclosure {
-        median: idriss::median_between(
-            table_3,
-            k,
-            s.magnitude,
-            s.distance,
-            s.velocity,
-            s.mechanism,
-            step,
-        ),
+        median: interpolated(rows.lower, rows.upper, step.part, step.whole),
         sigma: idriss::sigma_between(s.period, s.magnitude),
+    }
+}
+
+// By Idriss at row k, with the median by it.
+fn at_idriss_row(s: Scenario, k: usize, rows: TwoRows) -> Enclosure
+    requires { ⌜ TakenBy 1 idriss idrissRow s (P.Row k) × (rows ≡ idrissRowsOf s k k) ⌝ }
+    ensures { λ r. ⌜ r ≡ enclosureOf s ⌝ }
+{
+    Enclosure {
+        median: ends(rows.upper),
+        sigma: idriss::sigma(k, s.period, s.magnitude),
     }
 }
 
@@ -48,28 +73,25 @@ fn by_idriss(s: Scenario, place: Place) -> Enclosure
     requires { ⌜ TakenBy 1 idriss idrissRow s place ⌝ }
     ensures { λ r. ⌜ r ≡ enclosureOf s ⌝ }
 {
+    let rows = idriss::median_rows(
+        idriss::takes_table_3(s.magnitude),
+        first_row(place),
+        last_row(place),
+        s.magnitude,
+        s.distance,
+        s.velocity,
+        s.mechanism,
+    );
     match place {
-        Place::Row(k) => {
-            let table_3 = idriss::takes_table_3(s.magnitude);
-            Enclosure {
-                median: idriss::median(
-                    table_3,
-                    k,
-                    s.magnitude,
-                    s.distance,
-                    s.velocity,
-                    s.mechanism,
-                ),
-                sigma: idriss::sigma(k, s.period, s.magnitude),
-            }
-        }
-        Place::Between(k) => between_idriss(s, k),
+        Place::Row(k) => at_idriss_row(s, k, rows),
+        Place::Between(k) => between_idriss(s, k, rows),
     }
 }
 
-// By Boore and Atkinson, between row k and the next.
-fn between_boore_atkinson(s: Scenario, k: usize) -> Enclosure
+// By Boore and Atkinson between row k and the next, with the medians by these.
+fn between_boore_atkinson(s: Scenario, k: usize, rows: TwoRows) -> Enclosure
     requires { ⌜ TakenBy 2 booreAtkinson booreAtkinsonRow s (P.Between k) ⌝ }
+    requires { ⌜ rows ≡ booreAtkinsonRowsOf s k (k + 1) ⌝ }
     ensures { λ r. ⌜ r ≡ enclosureOf s ⌝ }
 {
     let step = interpolation::step(
@@ -77,16 +99,21 @@ fn between_boore_atkinson(s: Scenario, k: usize) -> Enclosure
         s.period,
         boore_atkinson_period(k + 1),
     );
+    let sigmas = boore_atkinson::sigma_rows(k, s.mechanism);
     Enclosure {
-        median: boore_atkinson::median_between(
-            k,
-            s.magnitude,
-            s.distance,
-            s.velocity,
-            s.mechanism,
-            step,
-        ),
-        sigma: boore_atkinson::sigma_between(k, s.mechanism, step),
+        median: interpolated(rows.lower, rows.upper, step.part, step.whole),
+        sigma: interpolated(sigmas.lower, sigmas.upper, step.part, step.whole),
+    }
+}
+
+// By Boore and Atkinson at row k, with the median by it.
+fn at_boore_atkinson_row(s: Scenario, k: usize, rows: TwoRows) -> Enclosure
+    requires { ⌜ TakenBy 2 booreAtkinson booreAtkinsonRow s (P.Row k) × (rows ≡ booreAtkinsonRowsOf s k k) ⌝ }
+    ensures { λ r. ⌜ r ≡ enclosureOf s ⌝ }
+{
+    Enclosure {
+        median: ends(rows.upper),
+        sigma: boore_atkinson::sigma(k, s.mechanism),
     }
 }
 
@@ -94,12 +121,17 @@ fn by_boore_atkinson(s: Scenario, place: Place) -> Enclosure
     requires { ⌜ TakenBy 2 booreAtkinson booreAtkinsonRow s place ⌝ }
     ensures { λ r. ⌜ r ≡ enclosureOf s ⌝ }
 {
+    let rows = boore_atkinson::median_rows(
+        first_row(place),
+        last_row(place),
+        s.magnitude,
+        s.distance,
+        s.velocity,
+        s.mechanism,
+    );
     match place {
-        Place::Row(k) => Enclosure {
-            median: boore_atkinson::median(k, s.magnitude, s.distance, s.velocity, s.mechanism),
-            sigma: boore_atkinson::sigma(k, s.mechanism),
-        },
-        Place::Between(k) => between_boore_atkinson(s, k),
+        Place::Row(k) => at_boore_atkinson_row(s, k, rows),
+        Place::Between(k) => between_boore_atkinson(s, k, rows),
     }
 }
 

@@ -13,6 +13,7 @@ use Rattle.toolbox_theory.proofs.ListLaws.{or-right, all, all-at}
 use Rattle.logarithm_theory.specs.Promise.{LnDomain}
 use Rattle.interpolation_theory.specs.Steps.{stepOf, StepAt}
 use Rattle.scenario_theory.specs.declared.Scenario.{Scenario}
+use Rattle.scenario_theory.specs.declared.Place.{Place}
 use Rattle.scenario_theory.specs.declared.Place.the-variants as P
 use Rattle.scenario_theory.specs.Refusal.{Limits, idriss, booreAtkinson, isOutside}
 use Rattle.scenario_theory.specs.Neighbours.{isTabled, neighbourBelow, neighbourAbove, idrissPrinted}
@@ -20,7 +21,7 @@ use Rattle.scenario_theory.specs.Rows.{idrissRow, booreAtkinsonRow, rowCount, p
 use Rattle.scenario_theory.proofs.RowLaws.{idriss-row, boore-atkinson-row, idriss-printed, boore-atkinson-printed}
 use Rattle.scenario_theory.proofs.RefusalLaws.{Within, within-idriss, within-boore-atkinson}
 use Rattle.scenario_theory.proofs.RowLaws.{idriss-between, boore-atkinson-between, at-row, between-of}
-use Rattle.engine_theory.specs.Steps.{TakenBy}
+use Rattle.engine_theory.specs.Steps.{TakenBy, firstIn, lastIn}
 
 module _ (model period : ℕ) where
   pub first-place : model ≡ 1 → placeBy idriss idrissRow period ≡ placeOf model period
@@ -144,3 +145,16 @@ boore-atkinson-taken {s} t =
     let b = taken-between t in
     let w = within-boore-atkinson s (t .model) (t .accepted) in
     record { none = b .0; row = b .1; within = w; between = in-boore-atkinson (s .period) (b .0) (w .period) }
+
+-- the last row of a place is in the tables
+pub idriss-last : {s : Scenario} (p : Place) → TakenBy 1 idriss idrissRow s p → lastIn p < rowCount
+idriss-last (P.Row k) t = let r = taken-at-row t in rw (r .1) (idriss-row _ (r .0))
+idriss-last (P.Between k) t = let r = idriss-taken t in rw (r .row) (r .between .last)
+
+pub boore-atkinson-last : {s : Scenario} (p : Place) → TakenBy 2 booreAtkinson booreAtkinsonRow s p → lastIn p < rowCount
+boore-atkinson-last (P.Row k) t = let r = taken-at-row t in rw (r .1) (boore-atkinson-row _ (r .0))
+boore-atkinson-last (P.Between k) t = let r = boore-atkinson-taken t in rw (r .row) (r .between .last)
+
+pub first-last : (p : Place) → firstIn p ≤ lastIn p
+first-last (P.Row k) = omega arith
+first-last (P.Between k) = omega arith

@@ -1,25 +1,24 @@
 // The median and sigma of Idriss 2014, each by two ends that enclose the exact value, in units of 10^-9.
 ghost use mathlib.Core.Path.{_≡_};
-ghost use Prim.Native.Nat.{_+_, _≤_, _<_};
+ghost use Prim.Native.Nat.{_≤_, _<_};
 ghost use Rattle.interval_theory.specs.Bound.{Sized};
 ghost use Rattle.logarithm_theory.specs.Promise.{lnWidth};
 ghost use Rattle.logarithm_theory.specs.Bound.{lnMost};
-ghost use Rattle.interpolation_theory.specs.Steps.{StepAt};
-ghost use Rattle.scenario_theory.specs.Refusal.{idriss};
+ghost use Rattle.interpolation_theory.specs.Evaluation.{twoRowsOf};
 ghost use Rattle.scenario_theory.specs.Rows.{idrissRow, rowCount};
 ghost use Rattle.idriss_theory.specs.Tables.{takesTable3};
 ghost use Rattle.idriss_theory.specs.Rows.{rowAt, RowLimits};
 ghost use Rattle.idriss_theory.specs.Median.{F};
 ghost use Rattle.idriss_theory.specs.Sigma.{clamp};
-ghost use Rattle.idriss_theory.specs.Promise.{MedianDomain, MedianEnds, MedianBetweenEnds, SigmaDomain};
-ghost use Rattle.idriss_theory.specs.Promise.{SigmaEnds};
+ghost use Rattle.idriss_theory.specs.Promise.{MedianDomain, MedianEnds, SigmaDomain, SigmaEnds};
 ghost use Rattle.idriss_theory.specs.Evaluation.{AlphaDomain, alphaSum, gainsOf, lossesOf, distanceLnOf, vs30LnOf};
-ghost use Rattle.idriss_theory.specs.Evaluation.{distanceTermOf, siteTermOf, medianPairBy, medianOf, medianBetweenOf};
+ghost use Rattle.idriss_theory.specs.Evaluation.{distanceTermOf, siteTermOf, medianPairBy, medianPairOf, medianOf};
 ghost use Rattle.idriss_theory.specs.Evaluation.{clampedPeriod, periodLnOf, sigmaOf};
 ghost use Rattle.idriss_theory.specs.Sizes.{alphaMost, exactMost, distanceTermMost, siteTermMost};
 use idriss_tables as table;
 use idriss_theory::Row;
-use interpolation_theory::Step;
+use interpolation::no_pair;
+use interpolation_theory::TwoRows;
 use interval_theory::Ends;
 use interval_theory::SignedEnds;
 use interval_theory::SignedPair;
@@ -148,32 +147,33 @@ pub fn median(
     interval::ends(median_by_row(table_3, k, magnitude as u64, d, ln_r, ln_v, mechanism))
 }
 
-// The median between row k of that table and the next, by the step from one to the other.
-pub fn median_between(
+// The medians by the rows from k to last of that table. What rows have in common is worked out once.
+pub fn median_rows(
     table_3: bool,
     k: usize,
+    last: usize,
     magnitude: u16,
     rupture_distance: u16,
     vs30: u16,
     mechanism: u8,
-    s: Step,
-) -> SignedEnds
-    requires { ⌜ MedianDomain (k + 1) magnitude «rupture_distance» vs30 × StepAt (idriss .periods) k s ⌝ }
-    ensures { λ r. ⌜ r ≡ medianBetweenOf (rowAt «table_3» k) (rowAt «table_3» (k + 1)) s magnitude «rupture_distance»
-        vs30 mechanism ⌝ }
-    ensures { λ r. ⌜ MedianBetweenEnds (rowAt «table_3» k) (rowAt «table_3» (k + 1)) s magnitude «rupture_distance»
-        vs30 mechanism r ⌝ }
+) -> TwoRows
+    requires { ⌜ MedianDomain last magnitude «rupture_distance» vs30 × (k ≤ last) ⌝ }
+    ensures { λ r. ⌜ r ≡ twoRowsOf k last (λ j. medianPairOf (rowAt «table_3» j) magnitude «rupture_distance» vs30
+        mechanism) ⌝ }
 {
     let m = magnitude as u64;
     let d = rupture_distance as u64;
     let ln_r = distance_ln(d);
     let ln_v = vs30_ln(vs30 as u64);
-    interpolation::interpolated(
-        median_by_row(table_3, k, m, d, ln_r, ln_v, mechanism),
-        median_by_row(table_3, k + 1, m, d, ln_r, ln_v, mechanism),
-        s.part,
-        s.whole,
-    )
+    let mut lower = no_pair();
+    let mut upper = no_pair();
+    let mut i = k;
+    while i <= last {
+        lower = upper;
+        upper = median_by_row(table_3, i, m, d, ln_r, ln_v, mechanism);
+        i += 1;
+    }
+    TwoRows { lower, upper }
 }
 
 // x held to the range from low to high.

@@ -4,7 +4,7 @@ ghost use Prim.Native.Nat.{_^_, _≤_};
 ghost use Rattle.logarithm_theory.specs.Promise.{LnDomain};
 ghost use Rattle.interpolation_theory.specs.Steps.{stepOf};
 ghost use Rattle.interpolation_theory.specs.Evaluation.{partDown, partUp, PartDomain};
-ghost use Rattle.interpolation_theory.specs.Evaluation.{interpolatedOf, InterpolationDomain};
+ghost use Rattle.interpolation_theory.specs.Evaluation.{interpolatedOf, InterpolationDomain, noPair};
 use interpolation_theory::Step;
 use interval::between;
 use interval_theory::Ends;
@@ -65,5 +65,15 @@ pub fn step(lower: u16, period: u16, upper: u16) -> Step
         upper,
         part: logarithm::ln(period as u64, lower as u64),
         whole: logarithm::ln(upper as u64, lower as u64),
+    }
+}
+
+// A pair of zeros, which stands for a row that there is not.
+pub fn no_pair() -> SignedPair
+    ensures { λ a. ⌜ a ≡ noPair ⌝ }
+{
+    SignedPair {
+        gain: Ends { low: 0, high: 0 },
+        loss: Ends { low: 0, high: 0 },
     }
 }

@@ -3,3 +3,4 @@ pub mod Bounds
 pub mod Domains
 pub mod Laws
 pub mod StepLaws
+pub mod Passing

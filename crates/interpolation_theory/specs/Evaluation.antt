@@ -2,11 +2,13 @@
 -- high end from the two high ends. Callers go by the laws of proofs/, and never by this text.
 use mathlib.Core.Bool.{cond}
 use Prim.Native.Nat.{ℕ, _+_, _*_, _-_, _/_, _^_, _≤_, _<_}
-use lib.Dec.{leb}
+use lib.Dec.{leb, ltb}
 use Rattle.interval_theory.specs.declared.Ends.{Ends}
 use Rattle.interval_theory.specs.declared.SignedPair.{SignedPair}
 use Rattle.interval_theory.specs.declared.SignedEnds.{SignedEnds}
+use Rattle.interval_theory.specs.Natural.{exactly}
 use Rattle.interval_theory.specs.Signed.{betweenOf}
+use Rattle.interpolation_theory.specs.declared.TwoRows.{TwoRows}
 
 -- what `above` exceeds `below` by, times t/u: rounded down, and up
 unfoldable pub partDown : ℕ → ℕ → ℕ → ℕ → ℕ
@@ -27,6 +29,14 @@ interpolatedOf a b t u =
     (a .loss .high + partUp below above (t .high) (u .low) + 1)
     (a .gain .high + partUp over under (t .high) (u .low) + 1)
     (a .loss .low + partDown under over (t .low) (u .high))
+
+-- ---- the values by the rows from k to last
+
+abbrev pub noPair : SignedPair
+noPair = record { gain = exactly 0; loss = exactly 0 }
+
+unfoldable pub twoRowsOf : ℕ → ℕ → (ℕ → SignedPair) → TwoRows
+twoRowsOf k last by-row = record { lower = cond (ltb k last) (by-row (last - 1)) noPair; upper = by-row last }
 
 -- ---- what t and u are
 

@@ -135,15 +135,17 @@ fn periods_at(model: u8, place: Check) -> RowPeriods
 }
 
 // The periods of the two rows that an answer at a period rests on: equal where the period has a row of its own, else
-// its neighbours in the tables of the model.
+// its neighbours in the tables of the model. The checks look them up, of a scenario that is accepted but for these two.
 pub fn row_periods(model: u8, period: u16) -> RowPeriods
     ensures { λ r. ⌜ r ≡ rowPeriodsOf model period ⌝ }
 {
-    if model == 1 {
-        return periods_at(1, idriss_place(period));
-    }
-    if model == 2 {
-        return periods_at(2, boore_atkinson_place(period));
-    }
-    RowPeriods::Refused(1)
+    let s = Scenario {
+        model,
+        magnitude: 700,
+        distance: 0,
+        velocity: 7_600,
+        mechanism: 0,
+        period,
+    };
+    periods_at(model, check(s))
 }

@@ -1,5 +1,5 @@
 -- Where a period stands in the tables of a model.
-use mathlib.Core.Path.{_≡_, refl, sym, ap, _∙_}
+use mathlib.Core.Path.{_≡_, refl, sym, ap, subst, _∙_}
 use mathlib.Core.Bool.{Bool, true, false, false≢true, not, cond, _&&_}
 use mathlib.Core.List.{List, _∷_}
 use mathlib.Core.Logic.{⊎-elim}
@@ -24,9 +24,10 @@ use Rattle.scenario_theory.specs.Checks.{beyond, _when_, _otherwise_, un
 use Rattle.scenario_theory.specs.Refusal.{Limits, idriss, booreAtkinson, answeredPeriods, isOutside, refusalBy}
 use Rattle.scenario_theory.specs.Refusal.{refusalOf}
 use Rattle.scenario_theory.specs.Neighbours.{isTabled, neighbourBelow, neighbourAbove, idrissPrinted, rowPeriodsBy}
+use Rattle.scenario_theory.specs.Neighbours.{rowPeriodsOf}
 use Rattle.scenario_theory.specs.Rows.{Looked, BetweenRows, placeBy, placeOf, checkBy, checkOf, idrissRow}
 use Rattle.scenario_theory.specs.Rows.{booreAtkinsonRow, rowCount, placeAmong, idrissPlace, booreAtkinsonPlace}
-use Rattle.scenario_theory.specs.Rows.{periodsAt, InTable}
+use Rattle.scenario_theory.specs.Rows.{rowList, periodsAt, InTable, plainScenario}
 use Rattle.scenario_theory.proofs.CheckLaws.{is-first, first-of-three, is-refused, unless-is}
 use Rattle.scenario_theory.proofs.RefusalLaws.{answered, not-answered}
 
@@ -315,21 +316,21 @@ module _ (first : ℕ) (m : Limits) (row : ℕ → ℕ) (l : Listed first m row)
       (λ e ok. rw (ok, e, reads t e) refl)
       (λ b e ok. rw (ok, e, ← b .next, at _ (b .first), at _ (b .second)) refl)
 
-pub idriss-in-table : (t : ℕ) → InTable (idrissPlace t)
+idriss-in-table : (t : ℕ) → InTable (idrissPlace t)
 unfolding idrissPlace
 idriss-in-table t = in-table 0 idriss idrissRow idriss-listed idriss-row t
 
-pub boore-atkinson-in-table : (t : ℕ) → InTable (booreAtkinsonPlace t)
+boore-atkinson-in-table : (t : ℕ) → InTable (booreAtkinsonPlace t)
 unfolding booreAtkinsonPlace
 boore-atkinson-in-table t = in-table 1 booreAtkinson booreAtkinsonRow boore-atkinson-listed boore-atkinson-row t
 
-pub idriss-periods : (t : ℕ) → periodsAt (idriss .periods) (idrissPlace t) ≡ rowPeriodsBy idriss idrissPrinted t
+idriss-periods : (t : ℕ) → periodsAt (idriss .periods) (idrissPlace t) ≡ rowPeriodsBy idriss idrissPrinted t
 unfolding idrissPlace
 idriss-periods t =
     periods-by-row 0 idriss idrissRow idriss-listed idriss-row t idrissPrinted (idriss .periods) idriss-printed
     (λ t e. eqb→eq _ _ (all-at (λ t. eqb (idrissPrinted t) t) (idriss .periods) t tt e))
 
-pub boore-atkinson-periods : (t : ℕ) →
+boore-atkinson-periods : (t : ℕ) →
     periodsAt (0 ∷ booreAtkinson .periods) (booreAtkinsonPlace t) ≡ rowPeriodsBy booreAtkinson (λ t. t) t
 unfolding booreAtkinsonPlace
 boore-atkinson-periods t =
@@ -379,6 +380,35 @@ unfolding booreAtkinsonPlace
 boore-atkinson-last s e none h =
     last-check booreAtkinson booreAtkinsonRow s e none
     (h ∙ placed 1 booreAtkinson booreAtkinsonRow boore-atkinson-listed (s .period))
+
+-- ---- the periods of the rows, as the checks of a scenario look them up
+
+module _ (model t : ℕ) where
+  abbrev plain : Scenario
+  plain = plainScenario model t
+
+  -- whether the model is 1, and whether it is 2
+  by-model : (first second : Bool) →
+      let number = cond first (refusalBy idriss plain) (cond second (refusalBy booreAtkinson plain) 1) in
+      let place = cond first (placeBy idriss idrissRow t) (placeBy booreAtkinson booreAtkinsonRow t) in
+      let check = unlessRefused number (C.Accepted place) (C.Refused number) in
+      InTable check ×
+      (periodsAt (cond first (idriss .periods) (0 ∷ booreAtkinson .periods)) check ≡
+      cond first (rowPeriodsBy idriss idrissPrinted t)
+      (cond second (rowPeriodsBy booreAtkinson (λ t. t) t) (R.Refused 1)))
+  unfolding checkBy
+  by-model true second =
+      subst (λ c. InTable c × (periodsAt (idriss .periods) c ≡ rowPeriodsBy idriss idrissPrinted t))
+      (idriss-last plain {k = 0} refl refl refl) (idriss-in-table t, idriss-periods t)
+  by-model false true =
+      subst (λ c. InTable c × (periodsAt (0 ∷ booreAtkinson .periods) c ≡ rowPeriodsBy booreAtkinson (λ t. t) t))
+      (boore-atkinson-last plain {k = 0} refl refl refl) (boore-atkinson-in-table t, boore-atkinson-periods t)
+  by-model false false = (tt, refl)
+
+  pub looks-up : InTable (checkOf (plainScenario model t)) ×
+      (periodsAt (rowList model) (checkOf (plainScenario model t)) ≡ rowPeriodsOf model t)
+  unfolding checkOf placeOf refusalOf rowPeriodsOf
+  looks-up = by-model (eqb model 1) (eqb model 2)
 
 -- ---- what a check has shown
 

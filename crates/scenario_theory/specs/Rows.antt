@@ -90,3 +90,8 @@ checkBy m row s = unlessRefused (refusalBy m s) (C.Accepted (placeBy m row (s .p
 
 unfoldable pub checkOf : Scenario → Check
 checkOf s = unlessRefused (refusalOf s) (C.Accepted (placeOf (s .model) (s .period))) (C.Refused (refusalOf s))
+
+-- a scenario that is accepted but for its model and its period
+abbrev pub plainScenario : ℕ → ℕ → Scenario
+plainScenario model T =
+    record { model = model; magnitude = 700; distance = 0; velocity = 7_600; mechanism = 0; period = T }

@@ -5,15 +5,13 @@ use borrow.Author.Needs.{needs}
 use Rattle.interpolation_theory.specs.Steps.{stepOf}
 use Rattle.scenario_theory.specs.Refusal.{booreAtkinson}
 use Rattle.scenario_theory.specs.Neighbours.{neighbourBelow, neighbourAbove}
-use Rattle.boore_atkinson_theory.proofs.Rows.{row-at, total-at}
-use Rattle.boore_atkinson_theory.proofs.Accepted.{median-domain}
-use Rattle.engine_theory.specs.Evaluation.{enclosureOf}
 use Rattle.engine_theory.proofs.RowLaws.{BooreAtkinsonTaken, boore-atkinson-taken}
+use Rattle.engine_theory.proofs.Assembled.{boore-atkinson-interpolates, boore-atkinson-between-rows}
 use Rattle.engine.proofs.between_boore_atkinson.Statement.{statement}
 use Rattle.engine.proofs.between_boore_atkinson.Tie as tie
 
 taken : (c : tie.Start) → BooreAtkinsonTaken (c .args .s) (c .args .k)
-taken c = boore-atkinson-taken (c .pre)
+taken c = boore-atkinson-taken (c .pre .0)
 
 lower : (c : tie.After-boore-atkinson-period) →
     c .boore-atkinson-period .result ≡ neighbourBelow booreAtkinson (c .before .args .s .period)
@@ -31,18 +29,6 @@ step-is : (c : tie.After-step) →
     c .step .result ≡ stepOf T (neighbourBelow booreAtkinson T) (neighbourAbove booreAtkinson T)
 step-is c = c .step .ensures ∙ rw (lower (c .before .before), upper (c .before)) refl
 
-returns : tie.Need-returns
-unfolding enclosureOf
-returns c =
-    let m = c .before in
-    let k = m .before .before .before .before in
-    let t = taken k in
-    let T = k .args .s .period in
-    rw (k .pre .model, t .none, c .sigma-between .ensures .0, m .median-between .ensures .0, step-is (m .before), t .row)
-    (rw (row-at (neighbourBelow booreAtkinson T), row-at (neighbourAbove booreAtkinson T))
-    (rw (total-at (neighbourBelow booreAtkinson T), total-at (neighbourAbove booreAtkinson T), t .between .rows .next)
-    refl))
-
 pub between-boore-atkinson-spec : {M : Type 1} → statement M
 between-boore-atkinson-spec =
     tie.close
@@ -51,11 +37,17 @@ between-boore-atkinson-spec =
     (λ c. let t = taken (c .before) in rw (t .row) (omega (arith, t .between .last)))
     (λ c κs. let t = taken (c .before) in rw (t .row) (t .between .last))
     (λ c κs. rw (lower (c .before), upper c) (taken (c .before .before) .between .domains))
+    (λ c κs. let t = taken (c .before .before .before) in rw (t .row) (t .between .last))
     (λ c κs.
-    let t = taken (c .before .before .before) in
-    rw (step-is c, t .row)
-    (median-domain _ (t .between .last) (t .within), (t .between .first, t .between .step)))
+    let p = c .before .before .before .before .pre in
+    rw (step-is (c .before), p .1) (boore-atkinson-interpolates (p .0) .median))
     (λ c κs.
-    let t = taken (c .before .before .before .before) in
-    rw (step-is (c .before), t .row) (t .between .first, t .between .last, t .between .step))
-    returns)
+    let g = c .before in
+    let p = g .before .before .before .before .pre in
+    rw (step-is (g .before), g .sigma-rows .ensures) (boore-atkinson-interpolates (p .0) .sigma))
+    (λ c.
+    let m = c .before in
+    let g = m .before in
+    let p = g .before .before .before .before .pre in
+    rw (c .interpolated2 .ensures, m .interpolated .ensures, step-is (g .before), g .sigma-rows .ensures, p .1)
+    (boore-atkinson-between-rows (p .0))))

@@ -5,16 +5,13 @@ use borrow.Author.Needs.{needs}
 use Rattle.interpolation_theory.specs.Steps.{stepOf}
 use Rattle.scenario_theory.specs.Refusal.{idriss}
 use Rattle.scenario_theory.specs.Neighbours.{neighbourBelow, neighbourAbove}
-use Rattle.idriss_theory.specs.Tables.{takesTable3}
-use Rattle.idriss_theory.proofs.Rows.{row-at}
-use Rattle.idriss_theory.proofs.Accepted.{median-domain}
-use Rattle.engine_theory.specs.Evaluation.{enclosureOf}
 use Rattle.engine_theory.proofs.RowLaws.{IdrissTaken, idriss-taken}
+use Rattle.engine_theory.proofs.Assembled.{idriss-interpolates, idriss-between-rows}
 use Rattle.engine.proofs.between_idriss.Statement.{statement}
 use Rattle.engine.proofs.between_idriss.Tie as tie
 
 taken : (c : tie.Start) → IdrissTaken (c .args .s) (c .args .k)
-taken c = idriss-taken (c .pre)
+taken c = idriss-taken (c .pre .0)
 
 lower : (c : tie.After-idriss-period) → c .idriss-period .result ≡ neighbourBelow idriss (c .before .args .s .period)
 lower c = let t = taken (c .before) in c .idriss-period .ensures ∙ rw (t .row) (sym (t .between .step .lower))
@@ -29,7 +26,6 @@ step-is : (c : tie.After-step) →
 step-is c = c .step .ensures ∙ rw (lower (c .before .before), upper (c .before)) refl
 
 pub between-idriss-spec : {M : Type 1} → statement M
-unfolding enclosureOf
 between-idriss-spec =
     tie.close
     (tie.spec
@@ -37,17 +33,11 @@ between-idriss-spec =
     (λ c. let t = taken (c .before) in rw (t .row) (omega (arith, t .between .last)))
     (λ c κs. let t = taken (c .before) in rw (t .row) (t .between .last))
     (λ c κs. rw (lower (c .before), upper c) (taken (c .before .before) .between .domains))
-    (λ c κs. search needs)
     (λ c κs.
-    let t = taken (c .before .before .before .before) in
-    rw (step-is (c .before), t .row) (median-domain _ (t .between .last) (t .within), t .between .step))
+    let p = c .before .before .before .pre in rw (step-is c, p .1) (idriss-interpolates (p .0)))
     (λ c κs. search needs)
     (λ c.
     let m = c .before in
-    let k = m .before .before .before .before .before in
-    let t = taken k in
-    let T = k .args .s .period in
-    let b = takesTable3 (k .args .s .magnitude) in
-    rw (k .pre .model, t .none, c .sigma-between .ensures .0, m .median-between .ensures .0, step-is (m .before .before))
-    (rw (m .before .takes-table-3 .ensures, t .row, row-at b (neighbourBelow idriss T), row-at b (neighbourAbove idriss T))
-    (rw (t .between .rows .next) refl))))
+    let p = m .before .before .before .before .pre in
+    rw (c .sigma-between .ensures .0, m .interpolated .ensures, step-is (m .before), p .1)
+    (idriss-between-rows (p .0))))
