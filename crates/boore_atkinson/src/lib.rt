@@ -5,10 +5,12 @@ ghost use Prim.Native.Nat.{_+_, _≤_, _<_};
 ghost use lib.Dec.{eqb};
 ghost use Rattle.interpolation_theory.specs.Evaluation.{twoRowsOf};
 ghost use Rattle.scenario_theory.specs.Rows.{rowCount};
+ghost use Rattle.interval_theory.specs.Bound.{Sized};
+ghost use Rattle.boore_atkinson_theory.specs.Sizes.{curveMost};
 ghost use Rattle.boore_atkinson_theory.specs.Rows.{rowAt, totalAt};
 ghost use Rattle.boore_atkinson_theory.specs.Promise.{MedianDomain, MedianEnds, NonlinearDomain, NonlinearEnds};
 ghost use Rattle.boore_atkinson_theory.specs.Promise.{SigmaEnds};
-ghost use Rattle.boore_atkinson_theory.specs.Evaluation.{vs30LnOf, minusPFor, medianPairOf, medianOf, nonlinearEndsOf};
+ghost use Rattle.boore_atkinson_theory.specs.Evaluation.{vs30LnOf, curveFor, medianPairOf, medianOf, nonlinearEndsOf};
 ghost use Rattle.boore_atkinson_theory.specs.Evaluation.{exactPair, sigmaPairOf, sigmaOf};
 use boore_atkinson_rock as rock;
 use boore_atkinson_site as site;
@@ -23,19 +25,31 @@ use interval_theory::Ends;
 use interval_theory::SignedEnds;
 use interval_theory::SignedPair;
 
+// What the nonlinear part has over the slope, which all rows have in common: from 760 m/s on the slope is 0, p has no
+// part in it, and 0 stands for it.
+fn curve_for(v: u64, m: u64, d: u64, mechanism: u8) -> Ends
+    requires { ⌜ (500 ≤ m) × (m ≤ 800) × (d ≤ 19_999) ⌝ }
+    ensures { λ q. ⌜ (q ≡ curveFor v m d mechanism) × Sized q curveMost curveMost ⌝ }
+{
+    if 7_600 <= v {
+        return Ends { low: 0, high: 0 };
+    }
+    site::curve(rock::minus_p(m, d, mechanism))
+}
+
 // The median by row k of the tables, 0 for PGA, as a gain less a loss. What rows have in common is worked out before:
-// l, the absolute value of ln(V/760), and b, in which −p lies.
+// l, the absolute value of ln(V/760), and q, what the nonlinear part has over the slope.
 pub fn median_by_row(
     k: usize,
     m: u64,
     d: u64,
     v: u64,
     l: Ends,
-    b: Ends,
+    q: Ends,
     mechanism: u8,
 ) -> SignedPair
     requires { ⌜ MedianDomain k m d v × (l ≡ vs30LnOf v) ⌝ }
-    requires { ⌜ (b ≡ minusPFor v m d mechanism) × (b .low ≤ b .high) ⌝ }
+    requires { ⌜ (q ≡ curveFor v m d mechanism) × Sized q curveMost curveMost ⌝ }
     ensures { λ a. ⌜ a ≡ medianPairOf (rowAt k) m d v mechanism ⌝ }
 {
     let row = table::distance_at(k);
@@ -43,7 +57,7 @@ pub fn median_by_row(
     let motion = rock::rock(row, table::magnitude_at(k), m, effective, mechanism);
     let s = table::site_at(k);
     let linear = site::linear(s, v, l);
-    let nonlinear = site::nonlinear_part(s, v, l, b);
+    let nonlinear = site::nonlinear_part(s, v, l, q);
     plus(plus(motion, linear), nonlinear)
 }
 
@@ -62,12 +76,13 @@ pub fn median(
     let m = magnitude as u64;
     let d = projection_distance as u64;
     let v = vs30 as u64;
-    let b = rock::minus_p_for(v, m, d, mechanism);
+    let q = curve_for(v, m, d, mechanism);
     let l = site::vs30_ln(v);
-    ends(median_by_row(k, m, d, v, l, b, mechanism))
+    ends(median_by_row(k, m, d, v, l, q, mechanism))
 }
 
-// The medians by the rows from k to last. What rows have in common is worked out once: p and ln(V/760).
+// The medians by the rows from k to last. What rows have in common is worked out once: p, what
+// the nonlinear part makes of it, and ln(V/760).
 pub fn median_rows(
     k: usize,
     last: usize,
@@ -83,14 +98,14 @@ pub fn median_rows(
     let m = magnitude as u64;
     let d = projection_distance as u64;
     let v = vs30 as u64;
-    let b = rock::minus_p_for(v, m, d, mechanism);
+    let q = curve_for(v, m, d, mechanism);
     let l = site::vs30_ln(v);
     let mut lower = no_pair();
     let mut upper = no_pair();
     let mut i = k;
     while i <= last {
         lower = upper;
-        upper = median_by_row(i, m, d, v, l, b, mechanism);
+        upper = median_by_row(i, m, d, v, l, q, mechanism);
         i += 1;
     }
     TwoRows { lower, upper }
@@ -103,7 +118,7 @@ pub fn nonlinear(k: usize, vs30: u16, b: Ends) -> SignedEnds
     ensures { λ r. ⌜ NonlinearEnds (rowAt k .site) vs30 b r ⌝ }
 {
     let v = vs30 as u64;
-    ends(site::nonlinear_part(table::site_at(k), v, site::vs30_ln(v), b))
+    ends(site::nonlinear_part(table::site_at(k), v, site::vs30_ln(v), site::curve(b)))
 }
 
 // The total for a fault type that is unspecified, code 9, or specified.

@@ -4,7 +4,7 @@ ghost use Prim.Native.Nat.{_≤_, _+_, _*_};
 ghost use Rattle.interval_theory.specs.Bound.{Sized};
 ghost use Rattle.boore_atkinson_theory.specs.Rows.{DistanceLimits, MagnitudeLimits};
 ghost use Rattle.boore_atkinson_theory.specs.Evaluation.{effectiveOf, spreadOf, fallOf, levelOf, magnitudeOf, rockOf};
-ghost use Rattle.boore_atkinson_theory.specs.Evaluation.{minusPOf, minusPFor};
+ghost use Rattle.boore_atkinson_theory.specs.Evaluation.{minusPOf};
 ghost use Rattle.boore_atkinson_theory.specs.Sizes.{EffectiveSized, MagnitudeBounds, Small, termMost, rockMost};
 ghost use Rattle.interval_theory.specs.Bound.{SignedSized};
 use boore_atkinson_theory::DistanceRow;
@@ -133,15 +133,4 @@ pub fn minus_p(m: u64, projection_distance: u64, mechanism: u8) -> Ends
         low: a.loss.low - a.gain.low,
         high: a.loss.high - a.gain.low,
     }
-}
-
-// −p as the median rests on it: from 760 m/s on the slope is 0, p has no part in it, and 0 stands for −p.
-pub fn minus_p_for(v: u64, m: u64, projection_distance: u64, mechanism: u8) -> Ends
-    requires { ⌜ (500 ≤ m) × (m ≤ 800) × («projection_distance» ≤ 19_999) ⌝ }
-    ensures { λ b. ⌜ (b ≡ minusPFor v m «projection_distance» mechanism) × Sized b 4 rockMost ⌝ }
-{
-    if 7_600 <= v {
-        return Ends { low: 0, high: 0 };
-    }
-    minus_p(m, projection_distance, mechanism)
 }

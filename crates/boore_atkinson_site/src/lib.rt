@@ -6,7 +6,7 @@ ghost use Rattle.boore_atkinson_theory.specs.Rows.{SiteLimits};
 ghost use Rattle.interval_theory.specs.Natural.{exactly};
 ghost use Rattle.boore_atkinson_theory.specs.Evaluation.{vs30LnOf, linearOf, slowSlopeOf, fastSlopeOf};
 ghost use Rattle.boore_atkinson_theory.specs.Evaluation.{slopeOf, zOf, cubicOf, straightOf, branchOf, curveOf};
-ghost use Rattle.boore_atkinson_theory.specs.Evaluation.{nonlinearOf};
+ghost use Rattle.boore_atkinson_theory.specs.Evaluation.{nonlinearBy};
 ghost use Rattle.boore_atkinson_theory.specs.Constants.{minusLnA2};
 ghost use Rattle.boore_atkinson_theory.specs.Tables.{Vref, V2, V1};
 ghost use Rattle.interval_theory.specs.Bound.{SignedSized};
@@ -168,7 +168,7 @@ fn upper(b: Ends) -> Ends
 }
 
 // What the nonlinear part has beside bnl ln(0.06/0.1), over the slope: every branch that b reaches.
-fn curve(b: Ends) -> Ends
+pub fn curve(b: Ends) -> Ends
     requires { ⌜ b .low ≤ b .high ⌝ }
     ensures { λ q. ⌜ (q ≡ curveOf b) × Sized q curveMost curveMost ⌝ }
 {
@@ -182,11 +182,11 @@ fn curve(b: Ends) -> Ends
     hull(exact(0), u)
 }
 
-// The nonlinear part, where l is the absolute value of ln(V/760), and −p lies in b. From 760 m/s on the slope is 0, and
-// only the roundings are left.
-pub fn nonlinear_part(s: SiteRow, v: u64, l: Ends, b: Ends) -> SignedPair
-    requires { ⌜ SiteLimits s × (V1 ≤ v) × (l ≡ vs30LnOf v) × (b .low ≤ b .high) ⌝ }
-    ensures { λ a. ⌜ (a ≡ nonlinearOf s v b) × SignedSized a nonlinearMost nonlinearMost ⌝ }
+// The nonlinear part, where l is the absolute value of ln(V/760), and q is what it has over the slope. From 760 m/s on the
+// slope is 0, and only the roundings are left.
+pub fn nonlinear_part(s: SiteRow, v: u64, l: Ends, q: Ends) -> SignedPair
+    requires { ⌜ SiteLimits s × (V1 ≤ v) × (l ≡ vs30LnOf v) × Sized q curveMost curveMost ⌝ }
+    ensures { λ a. ⌜ (a ≡ nonlinearBy s v q) × SignedSized a nonlinearMost nonlinearMost ⌝ }
 {
     if 7_600 <= v {
         return SignedPair {
@@ -197,6 +197,6 @@ pub fn nonlinear_part(s: SiteRow, v: u64, l: Ends, b: Ends) -> SignedPair
     let n = slope(s, v, l);
     SignedPair {
         gain: product(n, MINUS_LN_LOW),
-        loss: product(n, curve(b)),
+        loss: product(n, q),
     }
 }

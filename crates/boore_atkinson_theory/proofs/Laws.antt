@@ -31,7 +31,7 @@ use Rattle.boore_atkinson_theory.specs.SiteTerm.{nonlinearPart}
 use Rattle.boore_atkinson_theory.specs.Median.{p, median, sigma}
 use Rattle.boore_atkinson_theory.specs.Promise.{MedianDomain, NonlinearDomain, medianWidth, nonlinearWidth}
 use Rattle.boore_atkinson_theory.specs.Promise.{MedianEnds, NonlinearEnds, SigmaEnds}
-use Rattle.boore_atkinson_theory.specs.Evaluation.{effectiveOf, rockOf, minusPOf, nonlinearOf}
+use Rattle.boore_atkinson_theory.specs.Evaluation.{effectiveOf, rockOf, minusPOf, nonlinearBy, nonlinearOf}
 use Rattle.boore_atkinson_theory.specs.Evaluation.{medianPairOf, medianOf, nonlinearEndsOf, sigmaPairOf}
 use Rattle.boore_atkinson_theory.specs.Evaluation.{sigmaOf}
 use Rattle.boore_atkinson_theory.specs.Sizes.{linearMost, nonlinearMost, rockMost}
@@ -79,7 +79,7 @@ below-of b h = record { from = rw (zero-sub (b .high)) (h .from); to = rw (zero-
 
 pub nonlinear-promise : {k v : ℕ} {b : Ends} → NonlinearDomain k v b →
     NonlinearEnds (rowAt k .site) v b (nonlinearEndsOf (rowAt k .site) v b)
-unfolding Sound value nonlinearEndsOf nonlinearOf
+unfolding Sound value nonlinearEndsOf nonlinearBy
 nonlinear-promise {k} {v} {b} h =
     let s = rowAt k .site in
     let l = site-limits k (h .row) in
@@ -127,7 +127,7 @@ module _ {k m d v : ℕ} (mechanism : ℕ) (h : MedianDomain k m d v) where
       rw pga-at (lies-wider r _ _ _ _ (omega arith) (omega arith))
 
   pub medianPairOf-at-points : PairAtPoints (median (rowAt k) m d v mechanism) pair
-  unfolding Sound value p median linearPart medianPairOf nonlinearOf
+  unfolding Sound value p median linearPart medianPairOf nonlinearBy
   medianPairOf-at-points =
       let s = site-limits k (h .row) in
       record {

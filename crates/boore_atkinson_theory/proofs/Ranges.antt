@@ -24,7 +24,7 @@ module _ {m d v : ℕ} (mechanism : ℕ) where
       let l = linear-within s (h .slow) (h .fast) in
       let p = minus-p-sized mechanism (h .magnitude-low) (h .magnitude-high) (h .near) in
       let n = nonlinear-sized (minusPOf m d mechanism) s (h .slow) (p .order) in
-      let g = nonlinear-gain (minusPOf m d mechanism) s (h .slow) in
+      let g = nonlinear-gain s (h .slow) (minusPOf m d mechanism) in
       omega arith
 
   -- so no two rows' medians are far apart

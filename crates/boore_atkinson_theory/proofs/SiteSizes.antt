@@ -22,7 +22,7 @@ use Rattle.boore_atkinson_theory.specs.Constants.{minusLnLow, minusLnA1,
 use Rattle.boore_atkinson_theory.specs.Constants.{dOver}
 use Rattle.boore_atkinson_theory.specs.Tables.{Vref, V2, V1}
 use Rattle.boore_atkinson_theory.specs.Evaluation.{vs30LnOf, linearOf, slowSlopeOf, fastSlopeOf, slopeOf, zOf}
-use Rattle.boore_atkinson_theory.specs.Evaluation.{cubicOf, straightOf, branchOf, curveOf, nonlinearOf}
+use Rattle.boore_atkinson_theory.specs.Evaluation.{cubicOf, straightOf, branchOf, curveOf, nonlinearBy, nonlinearOf}
 use Rattle.boore_atkinson_theory.specs.Sizes.{vs30Most, linearMost, curveMost, nonlinearMost, nonlinearGain}
 use Rattle.boore_atkinson_theory.specs.Ranges.{linearBound}
 use Rattle.boore_atkinson_theory.proofs.Constants.{slow-limits, fast-limits}
@@ -183,28 +183,32 @@ module _ {b : Ends} {most : ℕ} (n : Sized b rockWidth most) where
 
 -- ---- the nonlinear part
 
-module _ {s : SiteRow} {v : ℕ} (b : Ends) (l : SiteLimits s) (slow : V1 ≤ v) where
+module _ {s : SiteRow} {v : ℕ} (l : SiteLimits s) (slow : V1 ≤ v) where
   abbrev slope : Bounded (slopeOf s v)
   slope = given (slope-sized l slow)
 
   abbrev gain : Bounded (productOf (slopeOf s v) minusLnLow)
   gain = product slope (pair minusLnLow tt)
 
-  pub nonlinear-gain : nonlinearOf s v b .gain .high ≤ nonlinearGain
-  unfolding nonlinearOf
-  nonlinear-gain = at-most gain (size 6 nonlinearGain) tt .most
+  pub nonlinear-gain : (b : Ends) → nonlinearOf s v b .gain .high ≤ nonlinearGain
+  unfolding nonlinearBy
+  nonlinear-gain b = at-most gain (size 6 nonlinearGain) tt .most
 
   -- the slope times a curve that is at most w wide
-  nonlinear-by : (w k : ℕ) (c : Sized (curveOf b) w curveMost) →
+  by-curve : {q : Ends} (w k : ℕ) (c : Sized q w curveMost) →
       T (sumBound (gain .bound) (product slope (given c) .bound) fits size k nonlinearMost) →
-      SignedSized (nonlinearOf s v b) k nonlinearMost
-  unfolding nonlinearOf
-  nonlinear-by w k c t = signed-wider (pair-of (gain .within) (product slope (given c) .within)) (fitting t)
+      SignedSized (nonlinearBy s v q) k nonlinearMost
+  unfolding nonlinearBy
+  by-curve w k c t = signed-wider (pair-of (gain .within) (product slope (given c) .within)) (fitting t)
+
+  pub nonlinear-by-sized : {q : Ends} → Sized q curveMost curveMost →
+      SignedSized (nonlinearBy s v q) nonlinearMost nonlinearMost
+  nonlinear-by-sized c = by-curve curveMost nonlinearMost c tt
 
 pub nonlinear-sized : {s : SiteRow} {v : ℕ} (b : Ends) → SiteLimits s → V1 ≤ v → b .low ≤ b .high →
     SignedSized (nonlinearOf s v b) nonlinearMost nonlinearMost
-nonlinear-sized b l slow order = nonlinear-by b l slow curveMost nonlinearMost (curve-sized order) tt
+nonlinear-sized b l slow order = nonlinear-by-sized l slow (curve-sized order)
 
 pub nonlinear-narrow : {s : SiteRow} {v : ℕ} {b : Ends} {most : ℕ} → SiteLimits s → V1 ≤ v → Sized b rockWidth most →
     SignedSized (nonlinearOf s v b) nonlinearWidth nonlinearMost
-nonlinear-narrow {b = b} l slow n = nonlinear-by b l slow 21 nonlinearWidth (curve-narrow n) tt
+nonlinear-narrow {b = b} l slow n = by-curve l slow 21 nonlinearWidth (curve-narrow n) tt

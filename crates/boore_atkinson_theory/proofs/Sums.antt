@@ -11,8 +11,8 @@ use Rattle.interval_theory.specs.Bound.{Bound, Within, SignedWithin}
 use Rattle.interval_theory.specs.Natural.{productOf, hullOf}
 use Rattle.boore_atkinson_theory.specs.declared.SiteRow.{SiteRow}
 use Rattle.boore_atkinson_theory.specs.Tables.{Vref, V2, V1}
-use Rattle.boore_atkinson_theory.specs.Evaluation.{minusPOf, minusPFor, flatFrom, slopeOf, branchOf}
-use Rattle.boore_atkinson_theory.specs.Evaluation.{nonlinearOf}
+use Rattle.boore_atkinson_theory.specs.Evaluation.{minusPOf, flatFrom, slopeOf, branchOf, curveFor}
+use Rattle.boore_atkinson_theory.specs.Evaluation.{nonlinearBy, nonlinearOf}
 
 -- what is equal to a pair has its bound
 pub as-sized : {x y : Ends} {β : Bound} → x ≡ y → Within y β → (x ≡ y) × Within x β
@@ -43,14 +43,15 @@ module _ (b t A B : Ends) {r : Ends} where
 abbrev one : Ends
 one = record { low = 0; high = 1 }
 
-pub flat : (s : SiteRow) (v : ℕ) (b : Ends) → Vref ≤ v → record { gain = one; loss = one } ≡ nonlinearOf s v b
-unfolding nonlinearOf slopeOf productOf
-flat s v b h = rw (lt-leb v V1 (omega arith), lt-leb v V2 (omega arith), le-ltb v Vref h) (simp zero-mul)
+pub flat : (s : SiteRow) (v : ℕ) (q : Ends) → Vref ≤ v → record { gain = one; loss = one } ≡ nonlinearBy s v q
+unfolding nonlinearBy slopeOf productOf
+flat s v q h = rw (lt-leb v V1 (omega arith), lt-leb v V2 (omega arith), le-ltb v Vref h) (simp zero-mul)
 
-pub minus-p-for : (s : SiteRow) (v m d mechanism : ℕ) →
-    nonlinearOf s v (minusPFor v m d mechanism) ≡ nonlinearOf s v (minusPOf m d mechanism)
-unfolding minusPFor
-minus-p-for s v m d mechanism = elim (decLe flatFrom v) [
+-- so what all rows have in common is enough
+pub curve-for : (s : SiteRow) (v m d mechanism : ℕ) →
+    nonlinearBy s v (curveFor v m d mechanism) ≡ nonlinearOf s v (minusPOf m d mechanism)
+unfolding curveFor
+curve-for s v m d mechanism = elim (decLe flatFrom v) [
   | yes h ↦ sym (flat s v _ h) ∙ flat s v _ h
   | no h ↦ rw (lt-leb flatFrom v (omega arith)) refl
 ]

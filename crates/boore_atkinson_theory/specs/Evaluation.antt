@@ -125,17 +125,21 @@ branchOf b t A B = cond (leb (t .low) (b .high)) (cond (ltb (b .low) (t .high)) 
 unfoldable pub curveOf : Ends → Ends
 curveOf b = branchOf b minusLnA1 (exactly 0) (branchOf b minusLnA2 (cubicOf (zOf b)) (straightOf b))
 
-unfoldable pub nonlinearOf : SiteRow → ℕ → Ends → SignedPair
-nonlinearOf s v b =
+-- the nonlinear part by the slope and this
+unfoldable pub nonlinearBy : SiteRow → ℕ → Ends → SignedPair
+nonlinearBy s v q =
     let n : Ends = slopeOf s v in
-    record { gain = productOf n minusLnLow; loss = productOf n (curveOf b) }
+    record { gain = productOf n minusLnLow; loss = productOf n q }
 
--- −p as the median rests on it: from here on the slope is 0, and nothing depends on p
+abbrev pub nonlinearOf : SiteRow → ℕ → Ends → SignedPair
+nonlinearOf s v b = nonlinearBy s v (curveOf b)
+
+-- what all rows have in common in it: from here on the slope is 0, and nothing depends on p
 abbrev pub flatFrom : ℕ
 flatFrom = Vref
 
-unfoldable pub minusPFor : ℕ → ℕ → ℕ → ℕ → Ends
-minusPFor v m d mechanism = cond (leb flatFrom v) (exactly 0) (minusPOf m d mechanism)
+unfoldable pub curveFor : ℕ → ℕ → ℕ → ℕ → Ends
+curveFor v m d mechanism = cond (leb flatFrom v) (exactly 0) (curveOf (minusPOf m d mechanism))
 
 -- ---- the median as a gain less a loss, and the ends
 

@@ -5,11 +5,11 @@ ghost use Prim.Native.Nat.{_+_, _^_, _<_};
 ghost use lib.IntN.{natAbs};
 ghost use Rattle.scenario_theory.specs.declared.Place.the-variants as P;
 ghost use Rattle.scenario_theory.specs.Refusal.{idriss, booreAtkinson, refusalOf};
-ghost use Rattle.scenario_theory.specs.Rows.{rowCount, idrissRow, booreAtkinsonRow, Looked};
+ghost use Rattle.scenario_theory.specs.Rows.{rowCount, idrissRow, booreAtkinsonRow, scenarioWith, Looked};
 ghost use Rattle.record_theory.specs.Outcome.{scenarioIn, readRefusal};
 ghost use Rattle.engine_theory.specs.Promise.{AnswerPromise, NextPromise, DoublesPromise};
 ghost use Rattle.engine_theory.specs.Steps.{TakenBy, firstIn, lastIn, idrissRowsOf, booreAtkinsonRowsOf};
-ghost use Rattle.engine_theory.specs.Evaluation.{scenarioWith, enclosureOf, answerOf, recordAnswerOf, nextOf};
+ghost use Rattle.engine_theory.specs.Evaluation.{enclosureOf, answerOf, recordAnswerOf, nextOf};
 ghost use Rattle.engine_theory.specs.Evaluation.{SmallEnclosure, doubleOf, doublesOf, inDoubles};
 pub use engine_theory::Answer;
 pub use engine_theory::Doubles;
@@ -168,7 +168,14 @@ pub fn answer_fields(s: Scenario) -> Answer
     ensures { λ r. ⌜ r ≡ answerOf s ⌝ }
     ensures { λ r. ⌜ AnswerPromise (refusalOf s) s r ⌝ }
 {
-    match scenario::check(s) {
+    match scenario::check(
+        s.model,
+        s.magnitude,
+        s.distance,
+        s.velocity,
+        s.mechanism,
+        s.period,
+    ) {
         Check::Accepted(place) => Answer::Enclosed(by_model(
             s.model,
             s.magnitude,
@@ -239,7 +246,14 @@ pub fn answer_fields_in_doubles(s: Scenario) -> DoublesAnswer
     ensures { λ r. ⌜ r ≡ inDoubles (answerOf s) ⌝ }
     ensures { λ r. ⌜ DoublesPromise (refusalOf s) s (answerOf s) r ⌝ }
 {
-    match scenario::check(s) {
+    match scenario::check(
+        s.model,
+        s.magnitude,
+        s.distance,
+        s.velocity,
+        s.mechanism,
+        s.period,
+    ) {
         Check::Accepted(place) => DoublesAnswer::Enclosed(as_doubles(by_model(
             s.model,
             s.magnitude,

@@ -30,18 +30,6 @@ use Rattle.engine_theory.specs.declared.DoublesAnswer.{DoublesAnswer}
 use Rattle.engine_theory.specs.declared.DoublesAnswer.the-variants as D
 use Rattle.engine_theory.specs.Models.{byModel}
 
--- the scenario that has the fields
-abbrev pub scenarioWith : ℕ → ℕ → ℕ → ℕ → ℕ → ℕ → Scenario
-scenarioWith model magnitude distance velocity mechanism period =
-    record {
-      model = model;
-      magnitude = magnitude;
-      distance = distance;
-      velocity = velocity;
-      mechanism = mechanism;
-      period = period;
-    }
-
 -- ---- in whole numbers of units
 
 -- by the row of the period where it has one, else between two rows

@@ -11,12 +11,11 @@ use Rattle.scenario_theory.specs.declared.Place.the-variants as P
 use Rattle.scenario_theory.specs.declared.Check.{Check}
 use Rattle.scenario_theory.specs.declared.Check.the-variants as C
 use Rattle.scenario_theory.specs.Refusal.{refusalOf}
-use Rattle.scenario_theory.specs.Rows.{rowCount, idrissPlace, booreAtkinsonPlace}
+use Rattle.scenario_theory.specs.Rows.{rowCount, idrissPlace, booreAtkinsonPlace, scenarioWith}
 use Rattle.idriss_theory.specs.Rows.{rowAt}
 use Rattle.idriss_theory.specs.Evaluation.{medianOf, sigmaOf}
 use Rattle.boore_atkinson_theory.specs.Rows as rows
 use Rattle.boore_atkinson_theory.specs.Evaluation as second
-use Rattle.engine_theory.specs.Evaluation.{scenarioWith}
 use Rattle.probes.specs.declared.Probed.{Probed}
 use Rattle.probes.specs.declared.ProbedEnds.{ProbedEnds}
 use Rattle.probes.specs.declared.ProbedPlace.{ProbedPlace}

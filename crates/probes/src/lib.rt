@@ -4,11 +4,10 @@ ghost use Prim.Native.Nat.{_^_, _<_};
 ghost use lib.ListN.{length, getD};
 ghost use Rattle.interval_theory.specs.Signed.{SmallerThan};
 ghost use Rattle.scenario_theory.specs.Refusal.{idriss};
-ghost use Rattle.scenario_theory.specs.Rows.{idrissRow, placeBy};
+ghost use Rattle.scenario_theory.specs.Rows.{idrissRow, scenarioWith, placeBy};
 ghost use Rattle.record_theory.specs.Outcome.{restOf};
 ghost use Rattle.idriss_theory.specs.Tables.{takesTable3};
 ghost use Rattle.idriss_theory.specs.Evaluation.{sigmaOf};
-ghost use Rattle.engine_theory.specs.Evaluation.{scenarioWith};
 ghost use Rattle.probes.specs.Probe.{isTaken, probedLn, probedRoot, noEnds, told, probedIdriss};
 ghost use Rattle.probes.specs.Probe.{probedIdrissSigma, probedBooreAtkinson, probedBooreAtkinsonSigma};
 ghost use Rattle.probes.specs.Probe.{probedNonlinear, toldPlace, probedPlace};
@@ -208,15 +207,7 @@ fn idriss_sigma(p: Place, period: u16, magnitude: u16) -> SignedEnds
 pub extern "C" fn probe_idriss_sigma(period: u16, magnitude: u16) -> ProbedEnds
     ensures { λ r. ⌜ r ≡ probedIdrissSigma period magnitude ⌝ }
 {
-    let s = Scenario {
-        model: 1,
-        magnitude,
-        distance: 0,
-        velocity: 7_600,
-        mechanism: 0,
-        period,
-    };
-    match scenario::check(s) {
+    match scenario::check(1, magnitude, 0, 7_600, 0, period) {
         Check::Accepted(p) => tell(idriss_sigma(p, period, magnitude)),
         Check::Refused(_) => none(),
     }

@@ -132,7 +132,14 @@ fn field_check(m: u8, x: Scenario) -> Check
     if absent_written(m, x) {
         return Check::Refused(11);
     }
-    scenario::check(x)
+    scenario::check(
+        x.model,
+        x.magnitude,
+        x.distance,
+        x.velocity,
+        x.mechanism,
+        x.period,
+    )
 }
 
 // Reads the record at the front of s, with the place of the period, so that nobody has to look it up again.

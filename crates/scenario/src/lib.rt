@@ -5,10 +5,10 @@ ghost use mathlib.Core.List.{[], _∷_};
 ghost use Prim.Native.Nat.{_<_};
 ghost use lib.ListN.{getD};
 ghost use Rattle.toolbox_theory.specs.Lists.{among};
-ghost use Rattle.scenario_theory.specs.Checks.{_to_, beyond, _when_, _otherwise_};
+ghost use Rattle.scenario_theory.specs.Checks.{_to_, beyond};
 ghost use Rattle.scenario_theory.specs.Refusal.{idriss, booreAtkinson, refusalOf};
 ghost use Rattle.scenario_theory.specs.Rows.{rowCount, idrissRow, booreAtkinsonRow, rowList, periodsAt, InTable};
-ghost use Rattle.scenario_theory.specs.Rows.{checkBy, checkOf};
+ghost use Rattle.scenario_theory.specs.Rows.{scenarioWith, checkBy, checkOf};
 ghost use Rattle.scenario_theory.specs.Neighbours.{rowPeriodsOf};
 use scenario_rows::boore_atkinson_period;
 use scenario_rows::boore_atkinson_place;
@@ -32,64 +32,66 @@ fn unknown(code: u8, other: u8) -> bool
     3 < code && code != other
 }
 
-// The first of the checks 2 to 5 that fails, 0 where none does.
-fn first(two: bool, three: bool, four: bool, five: bool) -> u8
-    ensures { λ r. ⌜ r ≡ 2 when two otherwise 3 when three otherwise 4 when four otherwise 5 when five ⌝ }
+fn idriss_check(magnitude: u16, distance: u16, velocity: u16, mechanism: u8, period: u16) -> Check
+    ensures { λ r. ⌜ r ≡ checkBy idriss idrissRow (scenarioWith 1 magnitude distance velocity mechanism period) ⌝ }
 {
-    if two {
-        return 2;
+    if outside(450, 790, magnitude) {
+        return Check::Refused(2);
     }
-    if three {
-        return 3;
+    if outside(0, 17_500, distance) {
+        return Check::Refused(3);
     }
-    if four {
-        return 4;
+    if outside(4_500, 20_000, velocity) {
+        return Check::Refused(4);
     }
-    if five {
-        return 5;
+    if unknown(mechanism, 4) {
+        return Check::Refused(5);
     }
-    0
+    idriss_place(period)
 }
 
-fn idriss_check(s: Scenario) -> Check
-    ensures { λ r. ⌜ r ≡ checkBy idriss idrissRow s ⌝ }
+fn boore_atkinson_check(
+    magnitude: u16,
+    distance: u16,
+    velocity: u16,
+    mechanism: u8,
+    period: u16,
+) -> Check
+    ensures { λ r. ⌜ r ≡ checkBy booreAtkinson booreAtkinsonRow
+        (scenarioWith 2 magnitude distance velocity mechanism period) ⌝ }
 {
-    let k = first(
-        outside(450, 790, s.magnitude),
-        outside(0, 17_500, s.distance),
-        outside(4_500, 20_000, s.velocity),
-        unknown(s.mechanism, 4),
-    );
-    if k != 0 {
-        return Check::Refused(k);
+    if outside(500, 800, magnitude) {
+        return Check::Refused(2);
     }
-    idriss_place(s.period)
+    if outside(0, 19_999, distance) {
+        return Check::Refused(3);
+    }
+    if outside(1_800, 13_000, velocity) {
+        return Check::Refused(4);
+    }
+    if unknown(mechanism, 9) {
+        return Check::Refused(5);
+    }
+    boore_atkinson_place(period)
 }
 
-fn boore_atkinson_check(s: Scenario) -> Check
-    ensures { λ r. ⌜ r ≡ checkBy booreAtkinson booreAtkinsonRow s ⌝ }
+// The checks 1 to 6 of the scenario that has these fields: the place of its period, or the number of the first that it
+// fails. The fields pass in registers, as a struct would be stored and read back.
+pub fn check(
+    model: u8,
+    magnitude: u16,
+    distance: u16,
+    velocity: u16,
+    mechanism: u8,
+    period: u16,
+) -> Check
+    ensures { λ r. ⌜ r ≡ checkOf (scenarioWith model magnitude distance velocity mechanism period) ⌝ }
 {
-    let k = first(
-        outside(500, 800, s.magnitude),
-        outside(0, 19_999, s.distance),
-        outside(1_800, 13_000, s.velocity),
-        unknown(s.mechanism, 9),
-    );
-    if k != 0 {
-        return Check::Refused(k);
+    if model == 1 {
+        return idriss_check(magnitude, distance, velocity, mechanism, period);
     }
-    boore_atkinson_place(s.period)
-}
-
-// The checks 1 to 6 of s: the place of its period, or the number of the first that it fails.
-pub fn check(s: Scenario) -> Check
-    ensures { λ r. ⌜ r ≡ checkOf s ⌝ }
-{
-    if s.model == 1 {
-        return idriss_check(s);
-    }
-    if s.model == 2 {
-        return boore_atkinson_check(s);
+    if model == 2 {
+        return boore_atkinson_check(magnitude, distance, velocity, mechanism, period);
     }
     Check::Refused(1)
 }
@@ -98,7 +100,14 @@ pub fn check(s: Scenario) -> Check
 pub fn refusal(s: Scenario) -> u8
     ensures { λ r. ⌜ r ≡ refusalOf s ⌝ }
 {
-    match check(s) {
+    match check(
+        s.model,
+        s.magnitude,
+        s.distance,
+        s.velocity,
+        s.mechanism,
+        s.period,
+    ) {
         Check::Accepted(_) => 0,
         Check::Refused(k) => k,
     }
@@ -139,13 +148,5 @@ fn periods_at(model: u8, place: Check) -> RowPeriods
 pub fn row_periods(model: u8, period: u16) -> RowPeriods
     ensures { λ r. ⌜ r ≡ rowPeriodsOf model period ⌝ }
 {
-    let s = Scenario {
-        model,
-        magnitude: 700,
-        distance: 0,
-        velocity: 7_600,
-        mechanism: 0,
-        period,
-    };
-    periods_at(model, check(s))
+    periods_at(model, check(model, 700, 0, 7_600, 0, period))
 }

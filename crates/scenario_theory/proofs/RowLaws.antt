@@ -28,7 +28,7 @@ use Rattle.scenario_theory.specs.Neighbours.{rowPeriodsOf}
 use Rattle.scenario_theory.specs.Rows.{Looked, BetweenRows, placeBy, placeOf, checkBy, checkOf, idrissRow}
 use Rattle.scenario_theory.specs.Rows.{booreAtkinsonRow, rowCount, placeAmong, idrissPlace, booreAtkinsonPlace}
 use Rattle.scenario_theory.specs.Rows.{rowList, periodsAt, InTable, plainScenario}
-use Rattle.scenario_theory.proofs.CheckLaws.{is-first, first-of-three, is-refused, unless-is}
+use Rattle.scenario_theory.proofs.CheckLaws.{unless-is}
 use Rattle.scenario_theory.proofs.RefusalLaws.{answered, not-answered}
 
 -- ---- the row of a tabled period
@@ -339,46 +339,57 @@ boore-atkinson-periods t =
 
 -- ---- the checks of a program are those of a model's column, one by one
 
--- the first of the checks before the period's
-abbrev pub numberBefore : Limits → Scenario → ℕ
-numberBefore m s =
-    2 when beyond (m .magnitude) (s .magnitude) otherwise
-    3 when beyond (m .distance) (s .distance) otherwise
-    4 when beyond (m .velocity) (s .velocity) otherwise
-    5 when not (among (m .mechanisms) (s .mechanism))
-
 with-number : (b : Bool) (c : Check) →
     unlessRefused (6 when b) c (C.Refused 6) ≡ unlessRefused (6 when b) c (C.Refused (6 when b))
 with-number true c = refl
 with-number false c = refl
 
-module _ (m : Limits) (row : ℕ → ℕ) (s : Scenario) {k : ℕ} (e : k ≡ numberBefore m s) where
-  refusal-is : refusalBy m s ≡ (k otherwise 6 when isOutside (s .period))
-  unfolding refusalBy
-  refusal-is = rw (e, first-of-three, first-of-three, first-of-three) refl
+module _ (m : Limits) (row : ℕ → ℕ) (s : Scenario) where
+  pub fails-2 : beyond (m .magnitude) (s .magnitude) ≡ true → C.Refused 2 ≡ checkBy m row s
+  unfolding checkBy refusalBy
+  fails-2 e = rw e refl
 
-  pub earlier-check : (k ≡ 0 → ⊥) → C.Refused k ≡ checkBy m row s
-  unfolding checkBy
-  earlier-check some =
-      rw (refusal-is, ← is-first k (6 when isOutside (s .period)) some) (is-refused k _ (C.Refused k) some)
+  module _ (two : beyond (m .magnitude) (s .magnitude) ≡ false) where
+    pub fails-3 : beyond (m .distance) (s .distance) ≡ true → C.Refused 3 ≡ checkBy m row s
+    unfolding checkBy refusalBy
+    fails-3 e = rw (two, e) refl
 
-  last-check : {r : Check} → k ≡ 0 →
-      r ≡ unlessRefused (6 when isOutside (s .period)) (C.Accepted (placeBy m row (s .period))) (C.Refused 6) →
-      r ≡ checkBy m row s
-  unfolding checkBy
-  last-check none h = h ∙ rw (refusal-is, none) (with-number (isOutside (s .period)) _)
+    module _ (three : beyond (m .distance) (s .distance) ≡ false) where
+      pub fails-4 : beyond (m .velocity) (s .velocity) ≡ true → C.Refused 4 ≡ checkBy m row s
+      unfolding checkBy refusalBy
+      fails-4 e = rw (two, three, e) refl
 
-pub idriss-last : (s : Scenario) {k : ℕ} {r : Check} → k ≡ numberBefore idriss s → k ≡ 0 →
-    r ≡ idrissPlace (s .period) → r ≡ checkBy idriss idrissRow s
+      module _ (four : beyond (m .velocity) (s .velocity) ≡ false) where
+        pub fails-5 : not (among (m .mechanisms) (s .mechanism)) ≡ true → C.Refused 5 ≡ checkBy m row s
+        unfolding checkBy refusalBy
+        fails-5 e = rw (two, three, four, e) refl
+
+        -- and the last, the period's
+        last-check : {r : Check} → not (among (m .mechanisms) (s .mechanism)) ≡ false →
+            r ≡ unlessRefused (6 when isOutside (s .period)) (C.Accepted (placeBy m row (s .period))) (C.Refused 6) →
+            r ≡ checkBy m row s
+        unfolding checkBy refusalBy
+        last-check five h = h ∙ rw (two, three, four, five) (with-number (isOutside (s .period)) _)
+
+-- none of those before the period's applies
+pub record NoneBefore (m : Limits) (s : Scenario) : Type 0 where
+  pub two : beyond (m .magnitude) (s .magnitude) ≡ false
+  pub three : beyond (m .distance) (s .distance) ≡ false
+  pub four : beyond (m .velocity) (s .velocity) ≡ false
+  pub five : not (among (m .mechanisms) (s .mechanism)) ≡ false
+
+pub idriss-last : {s : Scenario} {r : Check} → NoneBefore idriss s → r ≡ idrissPlace (s .period) →
+    r ≡ checkBy idriss idrissRow s
 unfolding idrissPlace
-idriss-last s e none h =
-    last-check idriss idrissRow s e none (h ∙ placed 0 idriss idrissRow idriss-listed (s .period))
+idriss-last {s} n h =
+    last-check idriss idrissRow s (n .two) (n .three) (n .four) (n .five)
+    (h ∙ placed 0 idriss idrissRow idriss-listed (s .period))
 
-pub boore-atkinson-last : (s : Scenario) {k : ℕ} {r : Check} → k ≡ numberBefore booreAtkinson s → k ≡ 0 →
-    r ≡ booreAtkinsonPlace (s .period) → r ≡ checkBy booreAtkinson booreAtkinsonRow s
+pub boore-atkinson-last : {s : Scenario} {r : Check} → NoneBefore booreAtkinson s → r ≡ booreAtkinsonPlace (s .period) →
+    r ≡ checkBy booreAtkinson booreAtkinsonRow s
 unfolding booreAtkinsonPlace
-boore-atkinson-last s e none h =
-    last-check booreAtkinson booreAtkinsonRow s e none
+boore-atkinson-last {s} n h =
+    last-check booreAtkinson booreAtkinsonRow s (n .two) (n .three) (n .four) (n .five)
     (h ∙ placed 1 booreAtkinson booreAtkinsonRow boore-atkinson-listed (s .period))
 
 -- ---- the periods of the rows, as the checks of a scenario look them up
@@ -399,10 +410,12 @@ module _ (model t : ℕ) where
   unfolding checkBy
   by-model true second =
       subst (λ c. InTable c × (periodsAt (idriss .periods) c ≡ rowPeriodsBy idriss idrissPrinted t))
-      (idriss-last plain {k = 0} refl refl refl) (idriss-in-table t, idriss-periods t)
+      (idriss-last {s = plain} (record { two = refl; three = refl; four = refl; five = refl }) refl)
+      (idriss-in-table t, idriss-periods t)
   by-model false true =
       subst (λ c. InTable c × (periodsAt (0 ∷ booreAtkinson .periods) c ≡ rowPeriodsBy booreAtkinson (λ t. t) t))
-      (boore-atkinson-last plain {k = 0} refl refl refl) (boore-atkinson-in-table t, boore-atkinson-periods t)
+      (boore-atkinson-last {s = plain} (record { two = refl; three = refl; four = refl; five = refl }) refl)
+      (boore-atkinson-in-table t, boore-atkinson-periods t)
   by-model false false = (tt, refl)
 
   pub looks-up : InTable (checkOf (plainScenario model t)) ×

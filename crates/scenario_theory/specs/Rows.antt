@@ -91,7 +91,18 @@ checkBy m row s = unlessRefused (refusalBy m s) (C.Accepted (placeBy m row (s .p
 unfoldable pub checkOf : Scenario → Check
 checkOf s = unlessRefused (refusalOf s) (C.Accepted (placeOf (s .model) (s .period))) (C.Refused (refusalOf s))
 
--- a scenario that is accepted but for its model and its period
+-- the scenario that has the fields
+abbrev pub scenarioWith : ℕ → ℕ → ℕ → ℕ → ℕ → ℕ → Scenario
+scenarioWith model magnitude distance velocity mechanism period =
+    record {
+      model = model;
+      magnitude = magnitude;
+      distance = distance;
+      velocity = velocity;
+      mechanism = mechanism;
+      period = period;
+    }
+
+-- one that is accepted but for its model and its period
 abbrev pub plainScenario : ℕ → ℕ → Scenario
-plainScenario model T =
-    record { model = model; magnitude = 700; distance = 0; velocity = 7_600; mechanism = 0; period = T }
+plainScenario model T = scenarioWith model 700 0 7_600 0 T

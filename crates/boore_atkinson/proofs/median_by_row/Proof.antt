@@ -3,7 +3,7 @@ use native.Mathlib.Omega.{arith}
 use borrow.Author.Needs.{needs}
 use Rattle.interval_theory.proofs.SignedBounds.{moderate, plus-within}
 use Rattle.boore_atkinson_theory.specs.Evaluation.{medianPairOf}
-use Rattle.boore_atkinson_theory.proofs.Sums.{minus-p-for}
+use Rattle.boore_atkinson_theory.proofs.Sums.{curve-for}
 use Rattle.boore_atkinson.proofs.median_by_row.Statement.{statement}
 use Rattle.boore_atkinson.proofs.median_by_row.Tie as tie
 
@@ -27,7 +27,7 @@ returns c =
     let a = row .before .args in
     rw (c .plus2 .ensures, c .before .plus .ensures, rock .rock .ensures .0, linear .linear .ensures .0)
     (rw (n .nonlinear-part .ensures .0, effective .effective-distance .ensures .0, row .before .pre .1 .0)
-    (rw (minus-p-for, row .distance-at .ensures .0, rock .before .magnitude-at .ensures .0)
+    (rw (curve-for, row .distance-at .ensures .0, rock .before .magnitude-at .ensures .0)
     (rw (site .site-at .ensures .0))))
 
 pub median-by-row-spec : {M : Type 1} → statement M

@@ -10,17 +10,16 @@ use Rattle.boore_atkinson.proofs.median_rows.Statement.{statement}
 use Rattle.boore_atkinson.proofs.median_rows.Tie as tie
 
 abbrev Inv-loop : tie.InvT-loop
-Inv-loop k last magnitude projection-distance vs30 mechanism m d v b l lower₀ upper₀ i₀ lower upper i =
+Inv-loop k last magnitude projection-distance vs30 mechanism m d v q l lower₀ upper₀ i₀ lower upper i =
     Passed k (λ j. medianPairOf (rowAt j) m d v mechanism) lower upper i × (i ≤ last + 1)
 
 abbrev μ-loop : tie.MeasureT-loop
-μ-loop k last magnitude projection-distance vs30 mechanism m d v b l lower₀ upper₀ i₀ lower upper i = last + 1 - i
+μ-loop k last magnitude projection-distance vs30 mechanism m d v q l lower₀ upper₀ i₀ lower upper i = last + 1 - i
 
 takes : tie.Need-median-by-row-requires Inv-loop μ-loop
 takes c κs =
     let l = c .before .before .before .before in
-    let p = l .before .minus-p-for .ensures in
-    ((omega (arith, l .before .before .pre .0), l .vs30-ln .ensures), (p .0, p .1 .order))
+    ((omega (arith, l .before .before .pre .0), l .vs30-ln .ensures), l .before .curve-for .ensures)
 
 pub median-rows-spec : {M : Type 1} → statement M
 median-rows-spec =

@@ -1,24 +1,46 @@
--- `boore_atkinson_check` meets its contract.
-use mathlib.Core.Path.{_≡_, _∙_}
+-- `boore_atkinson_check` meets its contract, check by check.
+use mathlib.Core.Path.{sym, _∙_}
 use borrow.Author.Needs.{needs}
 use Rattle.scenario_theory.specs.Refusal.{booreAtkinson}
-use Rattle.scenario_theory.proofs.RowLaws.{numberBefore, earlier-check, boore-atkinson-last}
+use Rattle.scenario_theory.specs.Rows.{booreAtkinsonRow}
+use Rattle.scenario_theory.proofs.RowLaws.{fails-2, fails-3, fails-4, fails-5, boore-atkinson-last}
 use Rattle.scenario.proofs.boore_atkinson_check.Statement.{statement}
 use Rattle.scenario.proofs.boore_atkinson_check.Tie as tie
-
-first-is : (c : tie.After-first) →
-    c .first .result ≡ numberBefore booreAtkinson (c .before .before .before .before .before .args .s)
-first-is c =
-    let four = c .before .before in
-    let two = four .before .before in
-    c .first .ensures ∙
-    rw (c .before .unknown .ensures, four .outside3 .ensures, four .before .outside2 .ensures, two .outside .ensures)
 
 pub boore-atkinson-check-spec : {M : Type 1} → statement M
 boore-atkinson-check-spec =
     tie.close
     (tie.spec
-    (λ c κs. search needs) (λ c κs. search needs) (λ c κs. search needs) (λ c κs. search needs) (λ c κs. search needs)
-    (λ c. earlier-check booreAtkinson _ _ (first-is (c .before)) (c .if1 .taken))
     (λ c κs. search needs)
-    (λ c. boore-atkinson-last _ (first-is (c .before .before)) (c .before .if1 .left) (c .boore-atkinson-place .ensures)))
+    (λ c. fails-2 booreAtkinson booreAtkinsonRow _ (sym (c .before .outside .ensures) ∙ c .if1 .taken))
+    (λ c κs. search needs)
+    (λ c.
+    let two = c .before .before in
+    fails-3 booreAtkinson booreAtkinsonRow _ (sym (two .before .outside .ensures) ∙ two .if1 .left)
+    (sym (c .before .outside2 .ensures) ∙ c .if2 .taken))
+    (λ c κs. search needs)
+    (λ c.
+    let three = c .before .before in
+    let two = three .before .before in
+    fails-4 booreAtkinson booreAtkinsonRow _ (sym (two .before .outside .ensures) ∙ two .if1 .left)
+    (sym (three .before .outside2 .ensures) ∙ three .if2 .left) (sym (c .before .outside3 .ensures) ∙ c .if3 .taken))
+    (λ c κs. search needs)
+    (λ c.
+    let four = c .before .before in
+    let three = four .before .before in
+    let two = three .before .before in
+    fails-5 booreAtkinson booreAtkinsonRow _ (sym (two .before .outside .ensures) ∙ two .if1 .left)
+    (sym (three .before .outside2 .ensures) ∙ three .if2 .left) (sym (four .before .outside3 .ensures) ∙ four .if3 .left)
+    (sym (c .before .unknown .ensures) ∙ c .if4 .taken))
+    (λ c κs. search needs)
+    (λ c.
+    let five = c .before in
+    let four = five .before .before in
+    let three = four .before .before in
+    let two = three .before .before in
+    boore-atkinson-last (record {
+      two = sym (two .before .outside .ensures) ∙ two .if1 .left;
+      three = sym (three .before .outside2 .ensures) ∙ three .if2 .left;
+      four = sym (four .before .outside3 .ensures) ∙ four .if3 .left;
+      five = sym (five .before .unknown .ensures) ∙ five .if4 .left;
+    }) (c .boore-atkinson-place .ensures)))

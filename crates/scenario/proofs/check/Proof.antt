@@ -16,4 +16,4 @@ check-spec =
     (λ c. rw (c .before .if1 .taken) (c .idriss-check .ensures))
     (λ c κs. search needs)
     (λ c. rw (c .before .if2 .taken) (c .boore-atkinson-check .ensures))
-    (λ c. simp (ne-eqb _ 1 (c .before .before .if1 .left), ne-eqb _ 2 (c .if2 .left)) refl))
+    (λ c. simp (ne-eqb _ 1 (c .before .if1 .left), ne-eqb _ 2 (c .if2 .left)) refl))
