@@ -81,8 +81,8 @@ pub fn median(
     ends(median_by_row(k, m, d, v, l, q, mechanism))
 }
 
-// The medians by the rows from k to last. What rows have in common is worked out once: p, what
-// the nonlinear part makes of it, and ln(V/760).
+// The medians by row `last` and, where k is less, by the row before it. What rows have in common is worked out once: p,
+// what the nonlinear part makes of it, and ln(V/760).
 pub fn median_rows(
     k: usize,
     last: usize,

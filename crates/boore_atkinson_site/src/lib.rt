@@ -182,8 +182,8 @@ pub fn curve(b: Ends) -> Ends
     hull(exact(0), u)
 }
 
-// The nonlinear part, where l is the absolute value of ln(V/760), and q is what it has over the slope. From 760 m/s on the
-// slope is 0, and only the roundings are left.
+// The nonlinear part, where l is the absolute value of ln(V/760), and q is what it has over the slope. From 760 m/s on
+// the slope is 0, and only the roundings are left.
 pub fn nonlinear_part(s: SiteRow, v: u64, l: Ends, q: Ends) -> SignedPair
     requires { ⌜ SiteLimits s × (V1 ≤ v) × (l ≡ vs30LnOf v) × Sized q curveMost curveMost ⌝ }
     ensures { λ a. ⌜ (a ≡ nonlinearBy s v q) × SignedSized a nonlinearMost nonlinearMost ⌝ }

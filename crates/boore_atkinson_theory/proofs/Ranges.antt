@@ -3,10 +3,12 @@ use Prim.Native.Nat.{ℕ}
 use native.Mathlib.Omega.{arith}
 use Rattle.interval_theory.specs.Natural.{sumOf}
 use Rattle.interval_theory.specs.Signed.{plusOf}
-use Rattle.interval_theory.proofs.SignedBounds.{ranges-near}
+use Rattle.interval_theory.specs.Bound.{Reaches}
+use Rattle.interval_theory.proofs.SignedBounds.{ranges-near, ends-reach}
 use Rattle.boore_atkinson_theory.specs.Promise.{MedianDomain}
-use Rattle.boore_atkinson_theory.specs.Evaluation.{rockOf, minusPOf, medianPairOf}
-use Rattle.boore_atkinson_theory.specs.Ranges.{MedianRanges, RowsNear}
+use Rattle.boore_atkinson_theory.specs.Evaluation.{rockOf, minusPOf, medianPairOf, medianOf}
+use Rattle.boore_atkinson_theory.specs.Rows.{rowAt}
+use Rattle.boore_atkinson_theory.specs.Ranges.{medianLeast, medianMost, MedianRanges, RowsNear}
 use Rattle.boore_atkinson_theory.proofs.Rows.{site-limits, distance-limits}
 use Rattle.boore_atkinson_theory.proofs.Magnitudes.{row-term}
 use Rattle.boore_atkinson_theory.proofs.RockSizes.{squares, effective-sized, fall-within, minus-p-sized}
@@ -26,6 +28,12 @@ module _ {m d v : ℕ} (mechanism : ℕ) where
       let n = nonlinear-sized (minusPOf m d mechanism) s (h .slow) (p .order) in
       let g = nonlinear-gain s (h .slow) (minusPOf m d mechanism) in
       omega arith
+
+  -- and so do its ends
+  pub medianOf-reaches : {k : ℕ} → MedianDomain k m d v →
+      Reaches medianLeast medianMost (medianOf (rowAt k) m d v mechanism)
+  unfolding medianOf
+  medianOf-reaches h = ends-reach _ (medianPairOf-ranges h)
 
   -- so no two rows' medians are far apart
   pub rows-near : {j k : ℕ} → MedianDomain j m d v → MedianDomain k m d v → RowsNear j k m d v mechanism

@@ -22,7 +22,8 @@ use Rattle.boore_atkinson_theory.specs.Constants.{minusLnLow, minusLnA1,
 use Rattle.boore_atkinson_theory.specs.Constants.{dOver}
 use Rattle.boore_atkinson_theory.specs.Tables.{Vref, V2, V1}
 use Rattle.boore_atkinson_theory.specs.Evaluation.{vs30LnOf, linearOf, slowSlopeOf, fastSlopeOf, slopeOf, zOf}
-use Rattle.boore_atkinson_theory.specs.Evaluation.{cubicOf, straightOf, branchOf, curveOf, nonlinearBy, nonlinearOf}
+use Rattle.boore_atkinson_theory.specs.Evaluation.{cubicOf, straightOf, branchOf, curveOf, nonlinearBy}
+use Rattle.boore_atkinson_theory.specs.Evaluation.{nonlinearOf}
 use Rattle.boore_atkinson_theory.specs.Sizes.{vs30Most, linearMost, curveMost, nonlinearMost, nonlinearGain}
 use Rattle.boore_atkinson_theory.specs.Ranges.{linearBound}
 use Rattle.boore_atkinson_theory.proofs.Constants.{slow-limits, fast-limits}

@@ -1,5 +1,6 @@
--- What is promised of the ends of median, sigma and nonlinear part, whatever the engine computes. proofs/Laws shows it
--- of `medianOf`, `sigmaOf` and `nonlinearEndsOf`, which the contracts name; nobody has to read those to believe it.
+-- What is promised of the ends of median, sigma and nonlinear part, whatever the engine computes. proofs/Laws and
+-- Between show it of `medianOf`, `sigmaOf`, `nonlinearEndsOf`, `medianBetweenOf` and `sigmaBetweenOf`; nobody has to
+-- read those to believe it.
 use mathlib.Core.Path.{_≡_}
 use Prim.Native.Nat.{ℕ, _+_, _^_, _≤_, _<_}
 use lib.IntN.{pos, negℤ, _+ℤ_}
@@ -82,7 +83,7 @@ MedianBetweenEnds r q s magnitude projectionDistance vs30 mechanism e =
     BetweenEnds (between (s .period) (s .lower) (s .upper) (median r magnitude projectionDistance vs30 mechanism)
     (median q magnitude projectionDistance vs30 mechanism)) betweenWidth (medianLeast + 1_000) (medianMost + 1_000) e
 
--- and sigma "goes the same way" (W-201)
+-- and sigma "goes the same way" (W-201); it lies from 0 to 1, but for 100 units
 abbrev pub SigmaBetweenEnds : Total → Total → Step → ℕ → SignedEnds → Type 0
 SigmaBetweenEnds t u s mechanism e =
     BetweenEnds (between (s .period) (s .lower) (s .upper) (sigma t mechanism) (sigma u mechanism)) sigmaBetweenWidth

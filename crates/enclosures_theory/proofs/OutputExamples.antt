@@ -6,7 +6,7 @@ use native.Mathlib.Omega.{arith}
 use Rattle.record_theory.specs.declared.Reading.the-variants.{Refused}
 use Rattle.record_theory.specs.Outcome.{scenarioIn, lengthBy, mapRefusal, readRefusal, readOf}
 use Rattle.record_theory.specs.Layout.{sizeOf, numbersOf, absentWritten}
-use Rattle.scenario_theory.specs.Refusal.{isOutside, refusalBy, refusalOf}
+use Rattle.scenario_theory.specs.Refusal.{beyondPeriods, refusalBy, refusalOf}
 use Rattle.report_theory.specs.Text.{ascii, decimal, digitsBy, spaced}
 use Rattle.report_theory.specs.Lines.{lineOf, lastLineOf}
 use Rattle.enclosures_theory.specs.Output.{ended, linesOf}
@@ -29,12 +29,12 @@ bytes = 0x37 ∷ 0x01 ∷ 0xbc ∷ 0x02 ∷ 0xe8 ∷ 0x03 ∷ 0x02 ∷ 0x09 ∷ 
 
 read-with-6 : readOf bytes ≡ Refused 6
 unfolding readOf readRefusal mapRefusal lengthBy scenarioIn sizeOf numbersOf absentWritten refusalBy refusalOf
-    isOutside
+    beyondPeriods
 read-with-6 = refl
 
-pub document-example : linesOf bytes ≡ ascii "enclosures\n1 R 6\nend 1\n"
+pub refused-example : linesOf bytes ≡ ascii "enclosures\n1 R 6\nend 1\n"
 unfolding linesOf lineOf lastLineOf spaced decimal digitsBy
-document-example = after-first (one-refused 0 bytes 6 (omega arith) read-with-6)
+refused-example = after-first (one-refused 0 bytes 6 (omega arith) read-with-6)
 
 pub input-example : inputFailed 12 ≡ ascii "enclosures: standard input failed after 12 bytes"
 unfolding inputFailed decimal digitsBy

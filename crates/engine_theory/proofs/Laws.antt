@@ -16,6 +16,7 @@ use Rattle.engine_theory.specs.declared.DoublesAnswer.{DoublesAnswer}
 use Rattle.engine_theory.specs.declared.DoublesAnswer.the-variants as D
 use Rattle.engine_theory.specs.declared.Answer.the-variants as A
 use Rattle.engine_theory.specs.Promise.{AnswerPromise, DoublesPromise}
+use Rattle.engine_theory.specs.Ranges.{AnswerInRange}
 use Rattle.engine_theory.specs.Evaluation.{enclosureOf, answerBy, answerOf, SmallAnswer, doublesOf, inDoubles}
 use Rattle.engine_theory.proofs.Exact.{equals}
 use Rattle.engine_theory.proofs.ModelLaws.{sound}
@@ -52,6 +53,12 @@ module _ (s : Scenario) where
   unfolding answerBy
   small zero accepted = sound s (accepted refl) .small
   small (suc k) accepted = tt
+
+  -- every answered median is at most 2.1, and not below −18.1
+  pub in-range : (k : ℕ) → (k ≡ 0 → refusalOf s ≡ 0) → AnswerInRange (answerBy k s)
+  unfolding answerBy
+  in-range zero accepted = sound s (accepted refl) .in-range
+  in-range (suc k) accepted = tt
 
   -- ---- the two cases of an answer from fields
 

@@ -8,17 +8,20 @@ use lib.IntN.{ℤ, pos, _+ℤ_}
 use lib.Signed.{_≤ℤ_}
 use Rattle.toolbox_theory.specs.Whole.{up, down}
 use Rattle.toolbox_theory.proofs.Tests.{by-test}
-use Rattle.toolbox_theory.proofs.Whole.{≤ℤ-in, add-is, within-more}
+use Rattle.toolbox_theory.proofs.Whole.{≤ℤ-in, ≤ℤ-trans, add-is, within-more}
 use Rattle.exact_theory.specs.Formula.{Formula, ends, Encloses}
+use Rattle.exact_theory.proofs.UnitLaws.{in-order}
 use Rattle.interval_theory.specs.declared.SignedEnds.{SignedEnds}
 use Rattle.interval_theory.specs.Signed.{SmallerThan}
+use Rattle.interval_theory.specs.Bound.{Reaches}
+use Rattle.interval_theory.proofs.SignedBounds.{reaches-more}
 use Rattle.interpolation_theory.specs.declared.Step.{Step}
 use Rattle.interpolation_theory.specs.Between.{between}
 use Rattle.interpolation_theory.specs.Steps.{stepOf}
 use Rattle.interpolation_theory.specs.Promise.{BetweenEnds}
 use Rattle.scenario_theory.specs.declared.Scenario.{Scenario}
 use Rattle.scenario_theory.specs.Refusal.{Limits, idriss, booreAtkinson, refusalOf}
-use Rattle.scenario_theory.specs.Neighbours.{isTabled, neighbourBelow, neighbourAbove}
+use Rattle.scenario_theory.specs.Neighbours.{hasRow, neighbourBelow, neighbourAbove}
 use Rattle.scenario_theory.proofs.RefusalLaws.{Within, of-model}
 use Rattle.scenario_theory.proofs.RowLaws.{idriss-row, boore-atkinson-row}
 use Rattle.idriss_theory.specs.Tables.{table2, table3, takesTable3}
@@ -28,6 +31,7 @@ use Rattle.idriss_theory.specs.Promise as idrissPromise
 use Rattle.idriss_theory.proofs.Rows.{row-at as idriss-row-at}
 use Rattle.idriss_theory.proofs.Accepted.{median-domain as idriss-median-domain}
 use Rattle.idriss_theory.proofs.Laws.{medianOf-promise as idriss-median-promise}
+use Rattle.idriss_theory.proofs.Ranges.{medianOf-reaches as idriss-median-reaches}
 use Rattle.idriss_theory.proofs.Between.{medianBetweenOf-promise as idriss-between-promise}
 use Rattle.idriss_theory.proofs.SigmaLaws.{sigmaOf-promise as idriss-sigma-promise}
 use Rattle.boore_atkinson_theory.specs.Promise as booreAtkinsonPromise
@@ -35,12 +39,14 @@ use Rattle.boore_atkinson_theory.proofs.Rows.{row-at, total-at}
 use Rattle.boore_atkinson_theory.proofs.Accepted.{median-domain as boore-atkinson-median-domain}
 use Rattle.boore_atkinson_theory.proofs.Laws.{medianOf-promise as boore-atkinson-median-promise}
 use Rattle.boore_atkinson_theory.proofs.Laws.{sigmaOf-promise as boore-atkinson-sigma-promise}
+use Rattle.boore_atkinson_theory.proofs.Ranges.{medianOf-reaches as boore-atkinson-median-reaches}
 use Rattle.boore_atkinson_theory.proofs.Between.{medianBetweenOf-promise, sigmaBetweenOf-promise}
 use Rattle.engine_theory.specs.declared.Enclosure.{Enclosure}
 use Rattle.engine_theory.specs.Models.{atPeriod, idrissMedianBy, median, sigma, idrissWidth, booreAtkinsonWidth}
 use Rattle.engine_theory.specs.Models.{widthAt, medianWidth, idrissSigmaWidth, sigmaBetweenWidth, sigmaWidth}
 use Rattle.engine_theory.specs.Models.{booreAtkinsonMedianBy, booreAtkinsonSigmaBy}
 use Rattle.engine_theory.specs.Promise.{EnclosedWithin}
+use Rattle.engine_theory.specs.Ranges.{medianLeast, medianMost, InRange}
 use Rattle.engine_theory.specs.Evaluation.{atPeriodOf, idrissMedianEnds, booreAtkinsonMedianEnds}
 use Rattle.engine_theory.specs.Evaluation.{booreAtkinsonSigmaEnds, enclosureOf, SmallEnclosure}
 use Rattle.engine_theory.proofs.RowLaws.{in-idriss, in-boore-atkinson}
@@ -66,11 +72,26 @@ no-units : {y : ℤ} (z : ℤ) → y ≡ z → y ≤ℤ (z +ℤ pos 0)
 unfolding up down
 no-units z e = rw e (≤ℤ-in (omega (arith, add-is z (pos 0))))
 
--- what is computed at a period encloses what the model gives there, as each of its two cases does
-by-tabled : (b : Bool) {w v : ℕ} {f g : Formula} {d e : SignedEnds} → (b ≡ true → Ends w f d) →
-    (b ≡ false → Ends v g e) → Ends (cond b w v) (cond b f g) (cond b d e)
-by-tabled true tabled other = tabled refl
-by-tabled false tabled other = other refl
+-- those of a median lie within the range, too
+record MedianEnds (w : ℕ) (f : Formula) (e : SignedEnds) : Type 0 where
+  own : Ends w f e
+  inside : InRange e
+
+median-ends : {w l h : ℕ} {f : Formula} {e : SignedEnds} → Ends w f e → l ≤ medianLeast → h ≤ medianMost →
+    Reaches l h e → MedianEnds w f e
+median-ends {e = e} own least most reaches =
+    let order = in-order (own .enclosed .encloses) in
+    let inside = reaches-more medianLeast medianMost least most reaches in
+    record {
+      own = own;
+      inside = record { order = order; low-most = ≤ℤ-trans (e .high) order (inside .most); reaches = inside };
+    }
+
+-- what is computed at a period is to what the model gives there as each of its two cases is
+by-tabled : (K : ℕ → Formula → SignedEnds → Type 0) (b : Bool) {w v : ℕ} {f g : Formula} {d e : SignedEnds} →
+    (b ≡ true → K w f d) → (b ≡ false → K v g e) → K (cond b w v) (cond b f g) (cond b d e)
+by-tabled K true tabled other = tabled refl
+by-tabled K false tabled other = other refl
 
 -- ---- each model's
 
@@ -82,13 +103,15 @@ module _ (s : Scenario) where
     -- by either table
     idriss-median : (isTable3 : Bool) →
         let table = cond isTable3 table3 table2 in
-        Ends (widthAt idriss T idrissWidth) (idrissMedianBy table s) (idrissMedianEnds table s)
+        MedianEnds (widthAt idriss T idrissWidth) (idrissMedianBy table s) (idrissMedianEnds table s)
     idriss-median isTable3 =
-        by-tabled (isTabled idriss T)
+        by-tabled MedianEnds (hasRow idriss T)
         (λ e.
         let d = idriss-median-domain s (idriss-row T e) w in
         let m = rw (← idriss-row-at isTable3 T) at (idriss-median-promise isTable3 (s .mechanism) d) in
-        ends-of _ idrissPromise.medianWidth idrissWidth (omega arith) (m .encloses) (m .narrow) (m .small))
+        let r = rw (← idriss-row-at isTable3 T) at (idriss-median-reaches isTable3 (s .mechanism) d) in
+        let own = ends-of _ idrissPromise.medianWidth idrissWidth (omega arith) (m .encloses) (m .narrow) (m .small) in
+        median-ends own (omega arith) (omega arith) r)
         (λ e.
         let b = in-idriss T e (w .period) in
         let d = idriss-median-domain s (b .last) w in
@@ -99,54 +122,60 @@ module _ (s : Scenario) where
           ← idriss-row-at isTable3 (neighbourAbove idriss T),
         ) at
         (idriss-between-promise isTable3 (s .mechanism) d (b .step)) in
-        between-ends (2 * idrissWidth) (omega arith) m)
+        median-ends (between-ends (2 * idrissWidth) (omega arith) m) (omega arith) (omega arith) (m .reaches))
 
-    idriss-sigma : Ends (cond (isTabled idriss T) idrissSigmaWidth sigmaBetweenWidth) (idrissSigma T (s .magnitude))
+    idriss-sigma : Ends (cond (hasRow idriss T) idrissSigmaWidth sigmaBetweenWidth) (idrissSigma T (s .magnitude))
         (idrissSigmaOf T (s .magnitude))
     idriss-sigma =
         let g = idriss-sigma-promise T (s .magnitude) in
-        let width : idrissPromise.sigmaWidth ≤ cond (isTabled idriss T) idrissSigmaWidth sigmaBetweenWidth =
-        by-test (isTabled idriss T) (λ w. idrissPromise.sigmaWidth ≤ w) (λ _. omega arith) (λ _. omega arith) in
+        let width : idrissPromise.sigmaWidth ≤ cond (hasRow idriss T) idrissSigmaWidth sigmaBetweenWidth =
+        by-test (hasRow idriss T) (λ w. idrissPromise.sigmaWidth ≤ w) (λ _. omega arith) (λ _. omega arith) in
         ends-of _ idrissPromise.sigmaWidth _ width (g .encloses) (g .narrow) (g .small)
 
   module _ (w : Within booreAtkinson s) where
-    boore-atkinson-median : Ends (widthAt booreAtkinson T booreAtkinsonWidth) (booreAtkinsonMedianBy s)
+    boore-atkinson-median : MedianEnds (widthAt booreAtkinson T booreAtkinsonWidth) (booreAtkinsonMedianBy s)
         (booreAtkinsonMedianEnds s)
     boore-atkinson-median =
-        by-tabled (isTabled booreAtkinson T)
+        by-tabled MedianEnds (hasRow booreAtkinson T)
         (λ e.
         let d = boore-atkinson-median-domain s (boore-atkinson-row T e) w in
         let m = rw (← row-at T) at (boore-atkinson-median-promise (s .mechanism) d) in
-        ends-of _ booreAtkinsonPromise.medianWidth booreAtkinsonWidth (omega arith) (m .encloses) (m .narrow) (m .small))
+        let r = rw (← row-at T) at (boore-atkinson-median-reaches (s .mechanism) d) in
+        let width = booreAtkinsonPromise.medianWidth in
+        let own = ends-of _ width booreAtkinsonWidth (omega arith) (m .encloses) (m .narrow) (m .small) in
+        median-ends own (omega arith) (omega arith) r)
         (λ e.
         let b = in-boore-atkinson T e (w .period) in
         let d = boore-atkinson-median-domain s (b .last) w in
         let m =
         rw (← b .rows .next, ← row-at (neighbourBelow booreAtkinson T), ← row-at (neighbourAbove booreAtkinson T)) at
         (medianBetweenOf-promise (s .mechanism) (b .first) d (b .step)) in
-        between-ends (2 * booreAtkinsonWidth) (omega arith) m)
+        median-ends (between-ends (2 * booreAtkinsonWidth) (omega arith) m) (omega arith) (omega arith) (m .reaches))
 
-    boore-atkinson-sigma : Ends (cond (isTabled booreAtkinson T) 0 sigmaBetweenWidth) (booreAtkinsonSigmaBy s)
+    boore-atkinson-sigma : Ends (cond (hasRow booreAtkinson T) 0 sigmaBetweenWidth) (booreAtkinsonSigmaBy s)
         (booreAtkinsonSigmaEnds s)
     boore-atkinson-sigma =
-        by-tabled (isTabled booreAtkinson T)
+        by-tabled Ends (hasRow booreAtkinson T)
         (λ e.
         let g = rw (← total-at T) at (boore-atkinson-sigma-promise _ (s .mechanism) (boore-atkinson-row T e)) in
         ends-of _ 0 0 (omega arith) (g .encloses) (no-units _ (g .equal)) (g .small))
         (λ e.
         let b = in-boore-atkinson T e (w .period) in
+        let T1 = neighbourBelow booreAtkinson T in
+        let T2 = neighbourAbove booreAtkinson T in
         let g =
-        rw (← b .rows .next, ← total-at (neighbourBelow booreAtkinson T), ← total-at (neighbourAbove booreAtkinson T)) at
+        rw (← b .rows .next, ← total-at T1, ← total-at T2) at
         (sigmaBetweenOf-promise (s .mechanism) (b .first) (b .last) (b .step)) in
         between-ends sigmaBetweenWidth (omega arith) g)
 
 -- ---- the four ends of an accepted scenario
 
--- they enclose what the model gives, and a double equals each
+-- they enclose what the model gives, a double equals each, and the median's lie within the range
 pub record Sound (s : Scenario) (e : Enclosure) : Type 0 where
   pub median-enclosed : EnclosedWithin (medianWidth s) (median s) (e .median .low) (e .median .high)
   pub sigma-enclosed : EnclosedWithin (sigmaWidth s) (sigma s) (e .sigma .low) (e .sigma .high)
   pub small : SmallEnclosure e
+  pub in-range : InRange (e .median)
 
 module _ (s : Scenario) where
   idriss-sound : (s .model ≡ 1) × Within idriss s → Sound s (enclosureOf s)
@@ -155,9 +184,10 @@ module _ (s : Scenario) where
       let m = idriss-median s w (takesTable3 (s .magnitude)) in
       let g = idriss-sigma s w in
       rw model (record {
-        median-enclosed = m .enclosed;
+        median-enclosed = m .own .enclosed;
         sigma-enclosed = g .enclosed;
-        small = record { median = m .small; sigma = g .small };
+        small = record { median = m .own .small; sigma = g .small };
+        in-range = m .inside;
       })
 
   boore-atkinson-sound : (s .model ≡ 2) × Within booreAtkinson s → Sound s (enclosureOf s)
@@ -166,9 +196,10 @@ module _ (s : Scenario) where
       let m = boore-atkinson-median s w in
       let g = boore-atkinson-sigma s w in
       rw model (record {
-        median-enclosed = m .enclosed;
+        median-enclosed = m .own .enclosed;
         sigma-enclosed = g .enclosed;
-        small = record { median = m .small; sigma = g .small };
+        small = record { median = m .own .small; sigma = g .small };
+        in-range = m .inside;
       })
 
   pub sound : refusalOf s ≡ 0 → Sound s (enclosureOf s)

@@ -15,8 +15,8 @@ use Rattle.interpolation_theory.specs.Steps.{stepOf, StepAt}
 use Rattle.scenario_theory.specs.declared.Scenario.{Scenario}
 use Rattle.scenario_theory.specs.declared.Place.{Place}
 use Rattle.scenario_theory.specs.declared.Place.the-variants as P
-use Rattle.scenario_theory.specs.Refusal.{Limits, idriss, booreAtkinson, isOutside}
-use Rattle.scenario_theory.specs.Neighbours.{isTabled, neighbourBelow, neighbourAbove, idrissPrinted}
+use Rattle.scenario_theory.specs.Refusal.{Limits, idriss, booreAtkinson, beyondPeriods}
+use Rattle.scenario_theory.specs.Neighbours.{hasRow, neighbourBelow, neighbourAbove, idrissPrinted}
 use Rattle.scenario_theory.specs.Rows.{idrissRow, booreAtkinsonRow, rowCount, placeBy, placeOf, BetweenRows}
 use Rattle.scenario_theory.proofs.RowLaws.{idriss-row, boore-atkinson-row, idriss-printed, boore-atkinson-printed}
 use Rattle.scenario_theory.proofs.RefusalLaws.{Within, within-idriss, within-boore-atkinson}
@@ -37,7 +37,7 @@ module _ (model period : ℕ) where
 -- in the tables of a model, where a list has the period of each row
 module _ (m : Limits) (row : ℕ → ℕ) (list : List ℕ)
     (listed : (t : ℕ) → among (m .periods) t ≡ true → t ≡ getD list (row t) 0)
-    (few : (t : ℕ) → isTabled m t ≡ true → row t < rowCount) {period : ℕ} (b : BetweenRows m row period) where
+    (few : (t : ℕ) → hasRow m t ≡ true → row t < rowCount) {period : ℕ} (b : BetweenRows m row period) where
   step-at : StepAt list (row (neighbourBelow m period))
       (stepOf period (neighbourBelow m period) (neighbourAbove m period))
   step-at = record {
@@ -64,11 +64,11 @@ module _ (m : Limits) (row : ℕ → ℕ) (list : List ℕ)
 
 -- what is known where a scenario is taken by a row, and between two
 module _ {n : ℕ} {m : Limits} {row : ℕ → ℕ} {s : Scenario} {k : ℕ} where
-  pub taken-at-row : TakenBy n m row s (P.Row k) → (isTabled m (s .period) ≡ true) × (k ≡ row (s .period))
+  pub taken-at-row : TakenBy n m row s (P.Row k) → (hasRow m (s .period) ≡ true) × (k ≡ row (s .period))
   taken-at-row t = at-row m row (s .period) (sym (t .place))
 
   pub taken-between : TakenBy n m row s (P.Between k) →
-      (isTabled m (s .period) ≡ false) × (k ≡ row (neighbourBelow m (s .period)))
+      (hasRow m (s .period) ≡ false) × (k ≡ row (neighbourBelow m (s .period)))
   taken-between t = between-of m row (s .period) (sym (t .place))
 
 pub record IdrissBetween (T : ℕ) : Type 0 where
@@ -78,7 +78,7 @@ pub record IdrissBetween (T : ℕ) : Type 0 where
   pub last : idrissRow (neighbourBelow idriss T) + 1 < rowCount
   pub domains : LnDomain T (neighbourBelow idriss T) × LnDomain (neighbourAbove idriss T) (neighbourBelow idriss T)
 
-pub in-idriss : (T : ℕ) → isTabled idriss T ≡ false → isOutside T ≡ false → IdrissBetween T
+pub in-idriss : (T : ℕ) → hasRow idriss T ≡ false → beyondPeriods T ≡ false → IdrissBetween T
 in-idriss T none ok =
     let b = idriss-between T none ok in
     let listed : (t : ℕ) → among (idriss .periods) t ≡ true → t ≡ getD (idriss .periods) (idrissRow t) 0 =
@@ -94,7 +94,7 @@ in-idriss T none ok =
 
 -- of a scenario that is taken there
 pub record IdrissTaken (s : Scenario) (k : ℕ) : Type 0 where
-  pub none : isTabled idriss (s .period) ≡ false
+  pub none : hasRow idriss (s .period) ≡ false
   pub row : k ≡ idrissRow (neighbourBelow idriss (s .period))
   pub within : Within idriss s
   pub between : IdrissBetween (s .period)
@@ -115,7 +115,7 @@ pub record BooreAtkinsonBetween (T : ℕ) : Type 0 where
   pub domains : LnDomain T (neighbourBelow booreAtkinson T) ×
       LnDomain (neighbourAbove booreAtkinson T) (neighbourBelow booreAtkinson T)
 
-pub in-boore-atkinson : (T : ℕ) → isTabled booreAtkinson T ≡ false → isOutside T ≡ false → BooreAtkinsonBetween T
+pub in-boore-atkinson : (T : ℕ) → hasRow booreAtkinson T ≡ false → beyondPeriods T ≡ false → BooreAtkinsonBetween T
 unfolding booreAtkinsonRow
 in-boore-atkinson T none ok =
     let b = boore-atkinson-between T none ok in
@@ -134,7 +134,7 @@ in-boore-atkinson T none ok =
     }
 
 pub record BooreAtkinsonTaken (s : Scenario) (k : ℕ) : Type 0 where
-  pub none : isTabled booreAtkinson (s .period) ≡ false
+  pub none : hasRow booreAtkinson (s .period) ≡ false
   pub row : k ≡ booreAtkinsonRow (neighbourBelow booreAtkinson (s .period))
   pub within : Within booreAtkinson s
   pub between : BooreAtkinsonBetween (s .period)
@@ -151,7 +151,8 @@ pub idriss-last : {s : Scenario} (p : Place) → TakenBy 1 idriss idrissRow s p 
 idriss-last (P.Row k) t = let r = taken-at-row t in rw (r .1) (idriss-row _ (r .0))
 idriss-last (P.Between k) t = let r = idriss-taken t in rw (r .row) (r .between .last)
 
-pub boore-atkinson-last : {s : Scenario} (p : Place) → TakenBy 2 booreAtkinson booreAtkinsonRow s p → lastIn p < rowCount
+pub boore-atkinson-last : {s : Scenario} (p : Place) → TakenBy 2 booreAtkinson booreAtkinsonRow s p →
+    lastIn p < rowCount
 boore-atkinson-last (P.Row k) t = let r = taken-at-row t in rw (r .1) (boore-atkinson-row _ (r .0))
 boore-atkinson-last (P.Between k) t = let r = boore-atkinson-taken t in rw (r .row) (r .between .last)
 

@@ -12,7 +12,7 @@ use Rattle.interpolation_theory.specs.Steps.{stepOf}
 use Rattle.scenario_theory.specs.declared.Scenario.{Scenario}
 use Rattle.scenario_theory.specs.Checks.{unlessRefused}
 use Rattle.scenario_theory.specs.Refusal.{Limits, idriss, booreAtkinson, refusalOf}
-use Rattle.scenario_theory.specs.Neighbours.{isTabled, neighbourBelow, neighbourAbove}
+use Rattle.scenario_theory.specs.Neighbours.{hasRow, neighbourBelow, neighbourAbove}
 use Rattle.record_theory.specs.Outcome.{mapIn, scenarioIn, lengthBy, readRefusal}
 use Rattle.idriss_theory.specs.Tables.{Row, tableFor, rowIn}
 use Rattle.idriss_theory.specs.Evaluation.{medianOf as idrissMedianOf, sigmaOf as idrissSigmaOf}
@@ -37,7 +37,7 @@ abbrev pub atPeriodOf : Limits → ℕ → (ℕ → SignedEnds) → (ℕ → ℕ
 atPeriodOf m T by-row between-rows =
     let T1 : ℕ = neighbourBelow m T in
     let T2 : ℕ = neighbourAbove m T in
-    cond (isTabled m T) (by-row T) (between-rows T1 T2 (stepOf T T1 T2))
+    cond (hasRow m T) (by-row T) (between-rows T1 T2 (stepOf T T1 T2))
 
 -- Idriss's median by one of its tables
 abbrev pub idrissMedianEnds : List Row → Scenario → SignedEnds

@@ -1,4 +1,5 @@
 pub mod Models
+pub mod Ranges
 pub mod Evaluation
 pub mod Promise
 pub mod Steps

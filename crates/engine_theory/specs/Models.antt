@@ -1,4 +1,5 @@
--- What the model of a scenario gives, as the papers have it, and how far apart the ends of an answer may be.
+-- What the model of a scenario gives, as the papers have it and between rows as W-201 has it, and how far apart the
+-- ends of an answer may be.
 use mathlib.Core.Bool.{cond}
 use mathlib.Core.List.{List}
 use Prim.Native.Nat.{ℕ, _*_}
@@ -7,7 +8,7 @@ use Rattle.exact_theory.specs.Formula.{Formula}
 use Rattle.interpolation_theory.specs.Between.{between}
 use Rattle.scenario_theory.specs.declared.Scenario.{Scenario}
 use Rattle.scenario_theory.specs.Refusal.{Limits, idriss, booreAtkinson}
-use Rattle.scenario_theory.specs.Neighbours.{isTabled, neighbourBelow, neighbourAbove}
+use Rattle.scenario_theory.specs.Neighbours.{hasRow, neighbourBelow, neighbourAbove}
 use Rattle.idriss_theory.specs.Tables.{Row, tableFor, rowIn}
 use Rattle.idriss_theory.specs.Median.{median as idrissMedian}
 use Rattle.idriss_theory.specs.Sigma.{sigma as idrissSigma}
@@ -20,21 +21,21 @@ module _ {A : Type 0} where
   abbrev pub byModel : Scenario → A → A → A
   byModel s x y = cond (eqb (s .model) 1) x y
 
--- what a model gives at the period T, f t being what it gives by the row of a tabled period t: "Tabled periods answer as
--- before", any other "between the two neighbouring rows of the model" (W-201)
+-- what a model gives at the period T, f t being what it gives by the row of a tabled period t: "Tabled periods answer
+-- as before", any other "between the two neighbouring rows of the model" (W-201)
 abbrev pub atPeriod : Limits → ℕ → (ℕ → Formula) → Formula
 atPeriod m T f =
     let T1 : ℕ = neighbourBelow m T in
     let T2 : ℕ = neighbourAbove m T in
-    cond (isTabled m T) (f T) (between T T1 T2 (f T1) (f T2))
+    cond (hasRow m T) (f T) (between T T1 T2 (f T1) (f T2))
 
--- Idriss's median by one of its tables
+-- Idriss's median by one of its tables ('Idriss')
 abbrev pub idrissMedianBy : List Row → Scenario → Formula
 idrissMedianBy table s =
     atPeriod idriss (s .period)
     (λ t. idrissMedian (rowIn table t) (s .magnitude) (s .distance) (s .velocity) (s .mechanism))
 
--- and Boore-Atkinson's
+-- and Boore-Atkinson's ('Boore-Atkinson on rock', 'The site term')
 abbrev pub booreAtkinsonMedianBy : Scenario → Formula
 booreAtkinsonMedianBy s =
     atPeriod booreAtkinson (s .period)
@@ -63,7 +64,7 @@ booreAtkinsonWidth = 2_000
 
 -- "twice the tabled widths for the median" between rows (W-201)
 abbrev pub widthAt : Limits → ℕ → ℕ → ℕ
-widthAt m T tabled = cond (isTabled m T) tabled (2 * tabled)
+widthAt m T tabled = cond (hasRow m T) tabled (2 * tabled)
 
 -- how far the ends of the median may be apart
 unfoldable pub medianWidth : Scenario → ℕ
@@ -81,5 +82,5 @@ sigmaBetweenWidth = 20
 -- and those of sigma; by a row of Boore-Atkinson "Its two ends are equal" ('Boore-Atkinson on rock')
 unfoldable pub sigmaWidth : Scenario → ℕ
 sigmaWidth s =
-    byModel s (cond (isTabled idriss (s .period)) idrissSigmaWidth sigmaBetweenWidth)
-    (cond (isTabled booreAtkinson (s .period)) 0 sigmaBetweenWidth)
+    byModel s (cond (hasRow idriss (s .period)) idrissSigmaWidth sigmaBetweenWidth)
+    (cond (hasRow booreAtkinson (s .period)) 0 sigmaBetweenWidth)

@@ -29,7 +29,7 @@ abbrev pub lastIn : Place → ℕ
 lastIn (P.Row k) = k
 lastIn (P.Between k) = k + 1
 
--- the medians of s by the rows from k to last
+-- the medians of s by row `last` and, where k is less, by the row before it
 abbrev pub idrissRowsOf : Scenario → ℕ → ℕ → TwoRows
 idrissRowsOf s k last =
     twoRowsOf k last

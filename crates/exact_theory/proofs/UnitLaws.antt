@@ -3,12 +3,15 @@
 use mathlib.Core.Path.{_≡_}
 use Prim.Native.Nat.{ℕ, _+_, _*_, _≤_}
 use native.Mathlib.Omega.{arith}
-use lib.IntN.{pos, subℕ}
-use Rattle.toolbox_theory.proofs.Whole.{sub-is, sub-zero}
+use lib.IntN.{ℤ, pos, subℕ}
+use lib.Signed.{_≤ℤ_}
+use Rattle.toolbox_theory.specs.Whole.{up, down}
+use Rattle.toolbox_theory.proofs.Whole.{≤ℤ-in, sub-is, sub-zero}
 use Rattle.exact_theory.specs.Fraction.{Fraction, _≤q_, _≈q_, _+q_, negQ, _-q_, _*q_}
 use Rattle.exact_theory.specs.Pair.{_∈_}
-use Rattle.exact_theory.specs.Formula.{units, ends}
-use Rattle.exact_theory.proofs.FractionLaws.{Is, le-of, add-Is, mul-Is, neg-Is, over-Is, ≤q-trans, ≈q-≤q, ≈q-≥q}
+use Rattle.exact_theory.specs.Formula.{Formula, Encloses, units, ends}
+use Rattle.exact_theory.proofs.FractionLaws.{Is, le-of, le-as, add-Is, mul-Is, neg-Is, over-Is, ≤q-trans}
+use Rattle.exact_theory.proofs.FractionLaws.{≈q-≤q, ≈q-≥q}
 use Rattle.exact_theory.proofs.FractionLaws.{add-mono, neg-anti, upward, mul-between-right, between-low}
 use Rattle.exact_theory.proofs.FractionLaws.{between-high}
 
@@ -16,6 +19,14 @@ use Rattle.exact_theory.proofs.FractionLaws.{between-high}
 pub units-Is : (p q : ℕ) → Is (units (subℕ p q)) p q 1_000_000_000
 unfolding units
 units-Is p q = omega (arith, sub-is p q, over-Is (subℕ p q) 1_000_000_000 (omega arith))
+
+-- ends that enclose a formula are in order
+pub in-order : {low high : ℤ} {f : Formula} → Encloses (ends low high) f → low ≤ℤ high
+unfolding ends units
+in-order {low} {high} e =
+    let point = e .meets 1 (omega arith) .left in
+    let is : (z : ℤ) → Is (units z) (up z) (down z) 1_000_000_000 = λ z. over-Is z 1_000_000_000 (omega arith) in
+    ≤ℤ-in (omega (arith, le-as (is low) (is high) (≤q-trans (point .from) (point .to))))
 
 -- x lies from lu − ld to hu − hd units
 pub record Lies (x : Fraction) (lu ld hu hd : ℕ) : Type 0 where

@@ -62,8 +62,8 @@ pub extern "C" fn fusnoch_refusal(s: HostScenario) -> u8
     scenario::refusal(scenario_from(s))
 }
 
-// The rows of the model's tables that an answer at the period rests on, by their periods: so that nobody takes a value
-// between two rows for that of a row.
+// The rows of the model's tables that the median at the period rests on, by their periods: so that nobody takes a value
+// between two rows for that of a row. Sigma of model 2 rests on the same rows, that of model 1 on the period itself.
 #[no_mangle]
 pub extern "C" fn fusnoch_rows(model: u8, period: u16) -> HostPeriods
     ensures { λ r. ⌜ r ≡ toldPeriods (rowPeriodsOf model period) ⌝ }
@@ -84,8 +84,9 @@ pub extern "C" fn fusnoch_rows(model: u8, period: u16) -> HostPeriods
 }
 
 // Answers a scenario of any fields: by Idriss 2014 the median's ends enclose its exact logarithm at most 100 units
-// apart, sigma's at most 10; by Boore and Atkinson 2008 at most 2,000 apart, and sigma's are equal. At a period that has
-// no row of its own, between two rows, it is twice as much, 200 and 4,000, and sigma's are at most 20 apart by both.
+// apart, sigma's at most 10; by Boore and Atkinson 2008 at most 2,000 apart, and sigma's are equal. At a period that
+// has no row of its own, between two rows, it is twice as much, 200 and 4,000, and sigma's are at most 20 apart by
+// both.
 #[no_mangle]
 pub extern "C" fn fusnoch_answer_fields(s: HostScenario) -> FlatAnswer
     ensures { λ r. ⌜ r ≡ told (answerOf (scenarioFrom s)) ⌝ }

@@ -8,8 +8,8 @@ use lib.Dec.{eqb}
 use Rattle.scenario_theory.specs.declared.RowPeriods.{RowPeriods}
 use Rattle.scenario_theory.specs.declared.RowPeriods.the-variants as P
 use Rattle.scenario_theory.specs.Checks.{_when_, _otherwise_}
-use Rattle.scenario_theory.specs.Refusal.{Limits, idriss, booreAtkinson, isOutside}
-use Rattle.scenario_theory.specs.Neighbours.{isTabled, neighbourBelow, neighbourAbove, idrissPrinted, rowPeriodsBy}
+use Rattle.scenario_theory.specs.Refusal.{Limits, idriss, booreAtkinson, beyondPeriods}
+use Rattle.scenario_theory.specs.Neighbours.{hasRow, neighbourBelow, neighbourAbove, idrissPrinted, rowPeriodsBy}
 use Rattle.scenario_theory.specs.Neighbours.{rowPeriodsOf}
 use Rattle.scenario_theory.specs.Rows.{idrissRow, booreAtkinsonRow, BetweenRows}
 use Rattle.scenario_theory.proofs.RowLaws.{idriss-between, boore-atkinson-between}
@@ -26,9 +26,10 @@ record Around (T k : ℕ) (r : HostPeriods) : Type 0 where
 
 -- by any model
 module _ (m : Limits) (row printed : ℕ → ℕ) (T : ℕ) (same : 1 ≤ T → printed T ≡ T)
-    (between : isTabled m T ≡ false → isOutside T ≡ false → BetweenRows m row T) where
-  by-tabled : (b : Bool) → isTabled m T ≡ b → isOutside T ≡ false →
-      Around T 0 (toldPeriods (cond b (P.Rows (printed T) (printed T)) (P.Rows (neighbourBelow m T) (neighbourAbove m T))))
+    (between : hasRow m T ≡ false → beyondPeriods T ≡ false → BetweenRows m row T) where
+  by-tabled : (b : Bool) → hasRow m T ≡ b → beyondPeriods T ≡ false →
+      Around T 0
+      (toldPeriods (cond b (P.Rows (printed T) (printed T)) (P.Rows (neighbourBelow m T) (neighbourAbove m T))))
   by-tabled true e ok = record {
     number = refl;
     below = λ _ h. omega (arith, same h);
@@ -44,23 +45,23 @@ module _ (m : Limits) (row printed : ℕ → ℕ) (T : ℕ) (same : 1 ≤ T → 
         zeros = λ h. absurd (h refl);
       }
 
-  by-outside : (b : Bool) → isOutside T ≡ b → Around T (6 when b) (toldPeriods (cond b (P.Refused 6)
-      (cond (isTabled m T) (P.Rows (printed T) (printed T)) (P.Rows (neighbourBelow m T) (neighbourAbove m T)))))
+  by-outside : (b : Bool) → beyondPeriods T ≡ b → Around T (6 when b) (toldPeriods (cond b (P.Refused 6)
+      (cond (hasRow m T) (P.Rows (printed T) (printed T)) (P.Rows (neighbourBelow m T) (neighbourAbove m T)))))
   by-outside true e = record {
     number = refl;
     below = λ h _. absurd (omega (arith, h));
     above = λ h _. absurd (omega (arith, h));
     zeros = λ _. (refl, refl);
   }
-  by-outside false e = by-tabled (isTabled m T) refl e
+  by-outside false e = by-tabled (hasRow m T) refl e
 
-  around : Around T (6 when isOutside T) (toldPeriods (rowPeriodsBy m printed T))
+  around : Around T (6 when beyondPeriods T) (toldPeriods (rowPeriodsBy m printed T))
   unfolding rowPeriodsBy
-  around = by-outside (isOutside T) refl
+  around = by-outside (beyondPeriods T) refl
 
 -- by the model of this number
 by-model : (first second : Bool) (T : ℕ) →
-    Around T (1 when not (first || second) otherwise 6 when isOutside T)
+    Around T (1 when not (first || second) otherwise 6 when beyondPeriods T)
     (toldPeriods (cond first (rowPeriodsBy idriss idrissPrinted T)
     (cond second (rowPeriodsBy booreAtkinson (λ t. t) T) (P.Refused 1))))
 by-model true second T =

@@ -1,5 +1,5 @@
 -- What is promised of the structs that C is told, whatever the engine computes: demand 3 once more, by their numbers
--- and ends, and demand 2 for reading and writing.
+-- and ends, demand 2 for reading and writing, and W-201 for the rows.
 use mathlib.Core.Path.{_≡_}
 use mathlib.Core.Bool.{not, _||_}
 use mathlib.Core.List.{List, [], _∷_}
@@ -9,7 +9,7 @@ use lib.Ieee.{Float}
 use lib.ListN.{length}
 use Rattle.scenario_theory.specs.declared.Scenario.{Scenario}
 use Rattle.scenario_theory.specs.Checks.{_when_, _otherwise_}
-use Rattle.scenario_theory.specs.Refusal.{isOutside}
+use Rattle.scenario_theory.specs.Refusal.{beyondPeriods}
 use Rattle.record_theory.specs.Layout.{recordOf}
 use Rattle.record_theory.specs.Outcome.{mapIn, scenarioIn, lengthBy, readRefusal, writeRefusal}
 use Rattle.engine_theory.specs.declared.FlatAnswer.{FlatAnswer}
@@ -48,10 +48,10 @@ pub record HostWritingPromise (x : Scenario) (lent : List ℕ) (r : HostWriting)
   pub written : writeRefusal x lent ≡ 0 → r .length ≡ length (recordOf x)
   pub zero : (writeRefusal x lent ≡ 0 → ⊥) → r .length ≡ 0
 
--- the rows of an answer by a model at T: the number is 1 or 6 as of a scenario, and T lies from the one period to the
--- other, but that 0 is peak acceleration; with a refusal they are zeros
+-- the rows of a model at T (W-201): the number is 1 or 6 as of a scenario, and T lies from the one period to the other,
+-- but that 0 is peak acceleration; with a refusal they are zeros. Which rows they are, `rowPeriodsOf` says
 pub record HostRowsPromise (model T : ℕ) (r : HostPeriods) : Type 0 where
-  pub number : r .number ≡ (1 when not (eqb model 1 || eqb model 2) otherwise 6 when isOutside T)
+  pub number : r .number ≡ (1 when not (eqb model 1 || eqb model 2) otherwise 6 when beyondPeriods T)
   pub below : r .number ≡ 0 → 1 ≤ T → r .lower ≤ T
   pub above : r .number ≡ 0 → 1 ≤ T → T ≤ r .upper
   pub zeros : (r .number ≡ 0 → ⊥) → (r .lower ≡ 0) × (r .upper ≡ 0)

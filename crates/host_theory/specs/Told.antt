@@ -1,4 +1,4 @@
--- What C is told beside the plain struct of an answer: structs for the engine's scenario, doubles, readings and
+-- What C is told beside the plain struct of an answer: structs for the engine's scenario, doubles, rows, readings and
 -- writings. An enum does not pass, so a refused one is the number with zeros, and an accepted one has the number 0.
 use lib.Ieee.{Float, binary64, ofBits}
 use Rattle.scenario_theory.specs.declared.Scenario.{Scenario}
@@ -65,7 +65,7 @@ toldDoubles (D.Refused k) = record {
   «sigma_high» = zeroDouble;
 }
 
--- the periods of the rows that an answer rests on (W-201)
+-- the periods of the rows that a median rests on (W-201)
 abbrev pub toldPeriods : RowPeriods → HostPeriods
 toldPeriods (P.Rows lower upper) = record { number = 0; lower = lower; upper = upper }
 toldPeriods (P.Refused k) = record { number = k; lower = 0; upper = 0 }

@@ -2,8 +2,8 @@
 
 // The fields of a scenario, whole numbers: magnitude in 0.01, distance in 0.01 km (to the rupture for model 1, Idriss
 // 2014; to its surface projection for model 2, Boore and Atkinson 2008), velocity V_S30 in 0.1 m/s, period in 0.001 s
-// (0 is peak acceleration). Mechanism: 0 strike-slip, 1 normal, 2 reverse, 3 reverse oblique, 4 other oblique,
-// 9 unspecified.
+// (0, which is peak acceleration, or from 10 to 10000). Mechanism: 0 strike-slip, 1 normal, 2 reverse, 3 reverse
+// oblique, 4 other oblique, 9 unspecified.
 #[repr(C)]
 pub struct HostScenario {
     pub model: u8,
@@ -24,9 +24,10 @@ pub struct HostDoubles {
     pub sigma_high: f64,
 }
 
-// The periods of two rows of a model's tables, in 0.001 s: number 0 and those of the rows that an answer rests on, the
-// one below the period and the one above it, equal where the period has a row of its own (peak acceleration, period 0, has
-// 10 and 10 by model 1, and by model 2 the row PGA, 0 and 0); or the number of the refusal, 1 or 6, and zeros.
+// The periods of two rows of a model's tables, in 0.001 s: number 0 and those of the rows that the median rests on, and
+// the sigma of model 2, the one below the period and the one above it, equal where the period has a row of its own
+// (peak acceleration, period 0, has 10 and 10 by model 1, and by model 2 the row PGA, 0 and 0); or the number of the
+// refusal, 1 or 6, and zeros.
 #[repr(C)]
 pub struct HostPeriods {
     pub number: u8,

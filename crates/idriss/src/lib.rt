@@ -147,7 +147,8 @@ pub fn median(
     interval::ends(median_by_row(table_3, k, magnitude as u64, d, ln_r, ln_v, mechanism))
 }
 
-// The medians by the rows from k to last of that table. What rows have in common is worked out once.
+// The medians by row `last` of that table and, where k is less, by the row before it. What rows have in common is
+// worked out once: ln(R + 10) and ln V.
 pub fn median_rows(
     table_3: bool,
     k: usize,

@@ -17,7 +17,7 @@ use Rattle.logarithm_theory.specs.Promise.{LnDomain, lnWidth}
 use Rattle.logarithm_theory.specs.Bound.{lnMost}
 use Rattle.logarithm_theory.specs.Evaluation.{scaledOf, nearOneOf, mantissaLnOf, scaledLnOf, lnOf}
 use Rattle.scenario_theory.specs.Refusal.{idriss}
-use Rattle.scenario_theory.specs.Neighbours.{isTabled}
+use Rattle.scenario_theory.specs.Neighbours.{hasRow}
 use Rattle.scenario_theory.specs.Rows.{idrissRow, rowCount}
 use Rattle.idriss_theory.specs.Periods.{listedAt, periodLogarithm}
 use Rattle.idriss_theory.specs.Sizes.{periodTermMost}
@@ -48,11 +48,11 @@ period-listed t e =
 abbrev stays : ℕ → Bool
 stays t = among (idriss .periods) (clampedPeriod t)
 
-pub clamped-tabled : (t : ℕ) → isTabled idriss t ≡ true → among (idriss .periods) (clampedPeriod t) ≡ true
+pub clamped-tabled : (t : ℕ) → hasRow idriss t ≡ true → among (idriss .periods) (clampedPeriod t) ≡ true
 clamped-tabled t e = is-true (stays t) (all-at stays (0 ∷ idriss .periods) t tt e)
 
 -- and its row is the clamped row
-pub clamped-row : (t : ℕ) → isTabled idriss t ≡ true →
+pub clamped-row : (t : ℕ) → hasRow idriss t ≡ true →
     idrissRow (clampedPeriod t) ≡ clampedRow (idrissRow t)
 unfolding idrissRow
 clamped-row t e =
@@ -60,5 +60,5 @@ clamped-row t e =
     (all-at (λ t. eqb (idrissRow (clampedPeriod t)) (clampedRow (idrissRow t))) (0 ∷ idriss .periods) t tt e)
 
 -- so the entry of the row of a tabled period, clamped, is the logarithm of the period
-pub row-ln : (t : ℕ) → isTabled idriss t ≡ true → listedAt (clampedRow (idrissRow t)) ≡ periodLnOf (clampedPeriod t)
+pub row-ln : (t : ℕ) → hasRow idriss t ≡ true → listedAt (clampedRow (idrissRow t)) ≡ periodLnOf (clampedPeriod t)
 row-ln t e = rw (← clamped-row t e) (period-listed (clampedPeriod t) (clamped-tabled t e) .is)

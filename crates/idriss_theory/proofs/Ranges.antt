@@ -15,7 +15,8 @@ use Rattle.exact_theory.specs.Fraction.{_over_}
 use Rattle.interval_theory.specs.declared.Ends.{Ends}
 use Rattle.interval_theory.specs.declared.SignedPair.{SignedPair}
 use Rattle.interval_theory.specs.Natural.{scale, multipleOf, sumOf}
-use Rattle.interval_theory.specs.Bound.{Bound, Within}
+use Rattle.interval_theory.specs.Bound.{Bound, Within, Reaches}
+use Rattle.interval_theory.proofs.SignedBounds.{ends-reach}
 use Rattle.logarithm_tables_theory.specs.Tables.{coarseAt, fineAt}
 use Rattle.logarithm_theory.specs.Promise.{lnWidth}
 use Rattle.logarithm_theory.specs.Evaluation.{scaledOf, nearOneOf, mantissaLnOf, scaledLnOf, lnOf}
@@ -27,7 +28,7 @@ use Rattle.idriss_theory.specs.Tables.{Row, noRow}
 use Rattle.idriss_theory.specs.Rows.{rowAt, parts}
 use Rattle.idriss_theory.specs.Promise.{MedianDomain}
 use Rattle.idriss_theory.specs.Evaluation.{alphaSum, betaOf, gainsOf, lossesOf, vs30Cap, distanceLnOf, vs30LnOf}
-use Rattle.idriss_theory.specs.Evaluation.{distanceTermOf, siteTermOf, medianPairBy, medianPairOf}
+use Rattle.idriss_theory.specs.Evaluation.{distanceTermOf, siteTermOf, medianPairBy, medianPairOf, medianOf}
 use Rattle.idriss_theory.specs.Ranges.{medianLeast, medianMost, rowStep, MedianRanges, RowsNear}
 use Rattle.idriss_theory.proofs.Rows.{row-limits}
 use Rattle.idriss_theory.proofs.Bounds.{F-small, BetaBounds, beta-bounds}
@@ -210,6 +211,11 @@ module _ (isTable3 : Bool) {k m d v : ℕ} (mechanism : ℕ) (h : MedianDomain k
       let p = near medianLeast medianMost (rowAt isTable3 k) noRow (beta-for k (h .row)) (omega arith) t in
       let z : betaOf (parts noRow) m ≤ 0 = omega arith in
       omega (arith, mul-le-mul-right (distanceLnOf d .low) z)
+
+  -- and so do its ends
+  pub medianOf-reaches : Reaches medianLeast medianMost (medianOf (rowAt isTable3 k) m d v mechanism)
+  unfolding medianOf
+  medianOf-reaches = ends-reach _ medianPairOf-ranges
 
 pub rows-near : (isTable3 : Bool) (k : ℕ) {m d v : ℕ} (mechanism : ℕ) → MedianDomain (k + 1) m d v →
     RowsNear isTable3 k m d v mechanism

@@ -95,9 +95,11 @@ module _ (period magnitude : ℕ) where
         sound = rw (own-clamped, period-ln) ((tt, (tt, (omega arith, omega arith))), tt);
         held = λ σ known. rw (own-clamped, period-ln)
             (by-test (ltb (t period) 1_000) (LiesIn _)
-            (λ e. lies-wider (lies-difference (lies-sum constant (term-below period known (ltb→lt (t period) 1_000 e))) rest)
+            (λ e.
+            lies-wider (lies-difference (lies-sum constant (term-below period known (ltb→lt (t period) 1_000 e))) rest)
             _ _ _ _ (omega arith) (omega arith))
-            (λ e. lies-wider (lies-difference (lies-sum constant (term-held period known (nltb→le (t period) 1_000 e))) rest)
+            (λ e.
+            lies-wider (lies-difference (lies-sum constant (term-held period known (nltb→le (t period) 1_000 e))) rest)
             _ _ _ _ (omega arith) (omega arith)));
       }
 

@@ -93,7 +93,7 @@ clampedPeriod period = clamp 50 3_000 period
 abbrev pub clampedRow : ℕ → ℕ
 clampedRow k = clamp 4 17 k
 
--- the absolute value of ln T, T in thousandths of a second, and 0.035 times that
+-- the absolute value of ln T of a period of t thousandths of a second, and 0.035 times that
 unfoldable pub periodLnOf : ℕ → Ends
 periodLnOf t = lnOf (max t 1_000) (min t 1_000)
 

@@ -1,5 +1,5 @@
--- What is promised of the ends of median and sigma, whatever the engine computes. proofs/Laws and proofs/SigmaLaws show
--- it of `medianOf` and `sigmaOf`, which the contracts name; nobody has to read those two to believe it.
+-- What is promised of the ends of median and sigma, whatever the engine computes. proofs/Laws, SigmaLaws and Between
+-- show it of `medianOf`, `sigmaOf` and `medianBetweenOf`; nobody has to read those to believe it.
 use mathlib.Core.Path.{_≡_}
 use mathlib.Core.Bool.{true}
 use Prim.Native.Nat.{ℕ, _+_, _^_, _≤_, _<_}
@@ -12,7 +12,7 @@ use Rattle.interpolation_theory.specs.declared.Step.{Step}
 use Rattle.interpolation_theory.specs.Between.{between}
 use Rattle.interpolation_theory.specs.Promise.{BetweenEnds}
 use Rattle.scenario_theory.specs.Refusal.{idriss}
-use Rattle.scenario_theory.specs.Neighbours.{isTabled}
+use Rattle.scenario_theory.specs.Neighbours.{hasRow}
 use Rattle.scenario_theory.specs.Rows.{rowCount}
 use Rattle.idriss_theory.specs.Tables.{Row}
 use Rattle.idriss_theory.specs.Median.{median}
@@ -28,9 +28,9 @@ pub record MedianDomain (k magnitude ruptureDistance vs30 : ℕ) : Type 0 where
   pub near : ruptureDistance ≤ idriss .distance .high
   pub slow : idriss .velocity .low ≤ vs30
 
--- the argument of sigma where the list has its logarithm: 0 or a tabled period; elsewhere every period is one
+-- where the code takes ln T from the list of 22 logarithms: 0 or a tabled period
 pub record SigmaDomain (period : ℕ) : Type 0 where
-  pub tabled : isTabled idriss period ≡ true
+  pub tabled : hasRow idriss period ≡ true
 
 -- how far the ends are apart at most; demand 3 allows 100 for the median and 10 for sigma
 abbrev pub medianWidth : ℕ

@@ -54,7 +54,7 @@ pub fn interpolated(a: SignedPair, b: SignedPair, t: Ends, u: Ends) -> SignedEnd
     )
 }
 
-// The step from a row to the next, by the periods T1, T and T2 with T1 ≤ T ≤ T2.
+// The step from a row to the next, by the periods T1, T and T2: ln(T/T1) and ln(T2/T1).
 pub fn step(lower: u16, period: u16, upper: u16) -> Step
     requires { ⌜ LnDomain period lower × LnDomain upper lower ⌝ }
     ensures { λ r. ⌜ r ≡ stepOf period lower upper ⌝ }

@@ -41,8 +41,8 @@ neighbouring periods k t h =
     let p = all-le (gap periods k) t in
     rw (h .lower, h .upper) (omega (arith, p, rw (h .lower) at (h .above), rw (h .upper) at (h .below)))
 
--- what is decided of numbers alone: m is the width of both rows' pairs, w that of the result, and g is what its ends may
--- lie beyond theirs
+-- what is decided of numbers alone: m is the width of both rows' pairs, w that of the result, and g is what its ends
+-- may lie beyond theirs
 pub record Decided (α β : Bound) (k m l h w g : ℕ) : Type 0 where
   pub some : 1 ≤ k
   pub first : α .width ≤ m
@@ -75,14 +75,16 @@ module _ {T T1 T2 : ℕ} (n : Neighbouring T T1 T2) where
       -- k is what the widths of the logarithms may make of d; both rows' ends lie from −l to h
       pub between-promise : {v1 v2 : Formula} → PairAtPoints v1 a → PairAtPoints v2 b → (k : ℕ) →
           d * (2 * lnWidth) ≤ k * lnOf T2 T1 .low → (m l h w g : ℕ) → Decided α β k m l h w g → Ranges l h a →
-          Ranges l h b → BetweenEnds (between T T1 T2 v1 v2) w (l + g) (h + g) (interpolatedOf a b (lnOf T T1) (lnOf T2 T1))
+          Ranges l h b →
+          BetweenEnds (between T T1 T2 v1 v2) w (l + g) (h + g) (interpolatedOf a b (lnOf T T1) (lnOf T2 T1))
       between-promise x y k few m l h w g t r s =
           let e = interpolatedOf a b (lnOf T T1) (lnOf T2 T1) in
           let width = mul-le-mul-right (2 * lnWidth) (t .first) in
           let share-of-k = mul-le-mul-right (lnOf T2 T1 .low) (t .some) in
           record {
             encloses =
-                encloses (between-at-points part-domain whole-domain (omega arith) (omega arith) a b x y p (omega arith));
+                encloses
+                (between-at-points part-domain whole-domain (omega arith) (omega arith) a b x y p (omega arith));
             narrow =
                 within-more _ (e .low) (m + k + 3) w (t .wide)
                 (interpolated-narrow a b p q near share k few m (t .first) (t .second) (omega arith));

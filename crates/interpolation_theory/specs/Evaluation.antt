@@ -30,7 +30,7 @@ interpolatedOf a b t u =
     (a .gain .high + partUp over under (t .high) (u .low) + 1)
     (a .loss .low + partDown under over (t .low) (u .high))
 
--- ---- the values by the rows from k to last
+-- ---- the values by row `last` and, where k is less, by the row before it
 
 abbrev pub noPair : SignedPair
 noPair = record { gain = exactly 0; loss = exactly 0 }

@@ -7,7 +7,8 @@ use Rattle.interval_theory.specs.declared.SignedEnds.{SignedEnds}
 use Rattle.interval_theory.specs.Signed.{SmallerThan}
 use Rattle.interval_theory.specs.Bound.{Reaches}
 
--- e encloses f, at every fineness, is at most w units wide, lies from −l to h, and has ends that a double equals
+-- e encloses f, at every fineness (demand 3, W-201), is at most w units wide, lies from −l to h, and has ends that a
+-- double equals
 pub record BetweenEnds (f : Formula) (w l h : ℕ) (e : SignedEnds) : Type 0 where
   pub encloses : Encloses (ends (e .low) (e .high)) f
   pub narrow : e .high ≤ℤ (e .low +ℤ pos w)

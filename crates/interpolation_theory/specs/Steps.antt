@@ -17,7 +17,8 @@ pub record StepAt (periods : List ℕ) (k : ℕ) (s : Step) : Type 0 where
   pub above : s .lower < s .period
   pub below : s .period < s .upper
 
--- how large the logarithms of T2/T1 are at least, and at most: ln 1.2 and ln 2
+-- how large the ends of ln(T2/T1) are at least, some units below ln 1.2 (0.25 and 0.3 s), and at most, some above ln 2
+-- (0.01 and 0.02 s)
 abbrev pub stepLeast : ℕ
 stepLeast = 182_321_550
 

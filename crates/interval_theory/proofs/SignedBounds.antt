@@ -9,7 +9,7 @@ use lib.IntN.{ℤ, pos, negℤ, natAbs, _+ℤ_}
 use lib.Signed.{leZ, _≤ℤ_}
 use Rattle.toolbox_theory.proofs.Tests.{by-test}
 use Rattle.toolbox_theory.specs.Whole.{up, down}
-use Rattle.toolbox_theory.proofs.Whole.{narrower, neg-is, sub-is, ≤ℤ-in}
+use Rattle.toolbox_theory.proofs.Whole.{narrower, neg-is, sub-is, ≤ℤ-in, ≤ℤ-trans}
 use Rattle.signed_theory.proofs.Laws.{difference-small}
 use Rattle.interval_theory.specs.declared.Ends.{Ends}
 use Rattle.interval_theory.specs.declared.SignedPair.{SignedPair}
@@ -89,6 +89,14 @@ ends-narrow a w s h = between-narrow _ _ _ _ w (omega arith)
 pub ends-small : (a : SignedPair) {β : Bound} (n : ℕ) → SignedWithin a β → β .most < n → SmallerThan n (endsOf a)
 unfolding endsOf
 ends-small a n s h = between-small _ _ _ _ n (omega arith) (omega arith) (omega arith) (omega arith)
+
+-- what lies from −l to m lies from −i to n
+pub reaches-more : {l m : ℕ} {e : SignedEnds} (i n : ℕ) → l ≤ i → m ≤ n → Reaches l m e → Reaches i n e
+unfolding up down
+reaches-more {l} {m} i n least most r = record {
+  least = ≤ℤ-trans (negℤ (pos l)) (≤ℤ-in (omega (arith, neg-is (pos l), neg-is (pos i)))) (r .least);
+  most = ≤ℤ-trans (pos m) (r .most) (≤ℤ-in (omega arith));
+}
 
 pub ends-reach : (a : SignedPair) {l m : ℕ} → Ranges l m a → Reaches l m (endsOf a)
 unfolding endsOf

@@ -22,7 +22,8 @@ use Rattle.record_theory.specs.declared.Reading.the-variants.{Read, Refu
 use Rattle.record_theory.specs.Layout.{layout, absentWritten}
 use Rattle.record_theory.specs.Outcome.{mapIn, scenarioIn, lengthBy, mapRefusal, readRefusal, readOf, restAt}
 use Rattle.record_theory.specs.Outcome.{restOf, readingNumber, readingValues, ReadPromise}
-use Rattle.record_theory.specs.Steps.{frontRefusal, fieldRefusal, fieldCheck, placedReadingOf, placeless, Complete}
+use Rattle.record_theory.specs.Steps.{frontRefusal, fieldRefusal, fieldCheck, placedReadingOf, placeless}
+use Rattle.record_theory.specs.Steps.{Complete}
 
 -- ---- the checks in two parts, as the program makes them
 
@@ -160,7 +161,8 @@ pub record PlacedRead (s : List ℕ) (x : Scenario) (n : ℕ) (place : Place) : 
   pub read : readOf s ≡ Read x n
   pub looked : Looked x place
 
-pub placed-read : (s : List ℕ) {x : Scenario} {n : ℕ} {place : Place} → placedReadingOf s ≡ T.Read x n place → PlacedRead s x n place
+pub placed-read : (s : List ℕ) {x : Scenario} {n : ℕ} {place : Place} → placedReadingOf s ≡ T.Read x n place →
+    PlacedRead s x n place
 unfolding placedReadingOf
 placed-read s {x} {n} {place} e =
     let read = sym (read-of s e .0) in

@@ -143,7 +143,7 @@ fn periods_at(model: u8, place: Check) -> RowPeriods
     }
 }
 
-// The periods of the two rows that an answer at a period rests on: equal where the period has a row of its own, else
+// The periods of the two rows that a median at a period rests on: equal where the period has a row of its own, else
 // its neighbours in the tables of the model. The checks look them up, of a scenario that is accepted but for these two.
 pub fn row_periods(model: u8, period: u16) -> RowPeriods
     ensures { λ r. ⌜ r ≡ rowPeriodsOf model period ⌝ }

@@ -12,7 +12,8 @@ use Rattle.toolbox_theory.proofs.Tests.{by-test}
 use Rattle.toolbox_theory.proofs.ListLaws.{neither, or-cases, upTo, at-most}
 use Rattle.scenario_theory.specs.declared.Scenario.{Scenario}
 use Rattle.scenario_theory.specs.Checks.{Range, beyond, _when_}
-use Rattle.scenario_theory.specs.Refusal.{Limits, idriss, booreAtkinson, answeredPeriods, isOutside, refusalBy}
+use Rattle.scenario_theory.specs.Refusal.{Limits, idriss, booreAtkinson, answeredPeriods, beyondPeriods}
+use Rattle.scenario_theory.specs.Refusal.{refusalBy}
 use Rattle.scenario_theory.specs.Refusal.{refusalOf}
 use Rattle.scenario_theory.proofs.CheckLaws.{none-of, not-when}
 
@@ -25,7 +26,7 @@ pub record Within (m : Limits) (s : Scenario) : Type 0 where
   pub velocity-low : m .velocity .low ≤ s .velocity
   pub velocity-high : s .velocity ≤ m .velocity .high
   pub mechanism : among (m .mechanisms) (s .mechanism) ≡ true
-  pub period : isOutside (s .period) ≡ false
+  pub period : beyondPeriods (s .period) ≡ false
 
 not-beyond : (r : Range) (x : ℕ) → beyond r x ≡ false → (r .low ≤ x) × (x ≤ r .high)
 not-beyond r x e = let p = neither (ltb x (r .low)) (ltb (r .high) x) e in omega (arith, ltb-false)
@@ -45,14 +46,14 @@ other-than-zero true c e = absurd (false≢true e)
 other-than-zero false c e = e
 
 module _ (t : ℕ) where
-  pub answered : isOutside t ≡ false → (t ≡ 0) ⊎ ((answeredPeriods .low ≤ t) × (t ≤ answeredPeriods .high))
-  unfolding isOutside
+  pub answered : beyondPeriods t ≡ false → (t ≡ 0) ⊎ ((answeredPeriods .low ≤ t) × (t ≤ answeredPeriods .high))
+  unfolding beyondPeriods
   answered e =
       ⊎-elim (λ p. inl (eqb-true t 0 p)) (λ p. inr (not-beyond answeredPeriods t p))
       (unless-zero (eqb t 0) (beyond answeredPeriods t) e)
 
-  pub not-answered : isOutside t ≡ true → (t < answeredPeriods .low) ⊎ (answeredPeriods .high < t)
-  unfolding isOutside
+  pub not-answered : beyondPeriods t ≡ true → (t < answeredPeriods .low) ⊎ (answeredPeriods .high < t)
+  unfolding beyondPeriods
   not-answered e = beyond-is answeredPeriods t (other-than-zero (eqb t 0) (beyond answeredPeriods t) e)
 
 pub within : (m : Limits) (s : Scenario) → refusalBy m s ≡ 0 → Within m s
@@ -66,7 +67,7 @@ within m s e =
     let distance = not-beyond (m .distance) (s .distance) (not-when 2 _ (three .0)) in
     let velocity = not-beyond (m .velocity) (s .velocity) (not-when 3 _ (four .0)) in
     let mechanism = not-false (among (m .mechanisms) (s .mechanism)) (not-when 4 _ (five .0)) in
-    let period = not-when 5 (isOutside (s .period)) (five .1) in
+    let period = not-when 5 (beyondPeriods (s .period)) (five .1) in
     search needs
 
 -- its model is 1 or 2

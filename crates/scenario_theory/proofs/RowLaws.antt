@@ -11,7 +11,8 @@ use lib.Dec.{T, eqb, ltb, ltb→lt, eqb→eq}
 use lib.ListN.{length, getD}
 use Rattle.toolbox_theory.specs.Lists.{among, countBelow}
 use Rattle.toolbox_theory.proofs.Tests.{is-true, each, by-test, allBelow, below}
-use Rattle.toolbox_theory.proofs.ListLaws.{Missed, earlier, missed, or-right, neither, all, all-at, rising, Around, around, among-at}
+use Rattle.toolbox_theory.proofs.ListLaws.{Missed, earlier, missed, or-right, neither, all, all-at, rising}
+use Rattle.toolbox_theory.proofs.ListLaws.{Around, around, among-at}
 use Rattle.toolbox_theory.proofs.ListLaws.{between-places, greatest-below, least-above}
 use Rattle.scenario_theory.specs.declared.Scenario.{Scenario}
 use Rattle.scenario_theory.specs.declared.Check.{Check}
@@ -21,9 +22,10 @@ use Rattle.scenario_theory.specs.declared.RowPeriods.the-variants as R
 use Rattle.scenario_theory.specs.declared.Place.{Place}
 use Rattle.scenario_theory.specs.declared.Place.the-variants as P
 use Rattle.scenario_theory.specs.Checks.{beyond, _when_, _otherwise_, unlessRefused}
-use Rattle.scenario_theory.specs.Refusal.{Limits, idriss, booreAtkinson, answeredPeriods, isOutside, refusalBy}
+use Rattle.scenario_theory.specs.Refusal.{Limits, idriss, booreAtkinson, answeredPeriods, beyondPeriods}
+use Rattle.scenario_theory.specs.Refusal.{refusalBy}
 use Rattle.scenario_theory.specs.Refusal.{refusalOf}
-use Rattle.scenario_theory.specs.Neighbours.{isTabled, neighbourBelow, neighbourAbove, idrissPrinted, rowPeriodsBy}
+use Rattle.scenario_theory.specs.Neighbours.{hasRow, neighbourBelow, neighbourAbove, idrissPrinted, rowPeriodsBy}
 use Rattle.scenario_theory.specs.Neighbours.{rowPeriodsOf}
 use Rattle.scenario_theory.specs.Rows.{Looked, BetweenRows, placeBy, placeOf, checkBy, checkOf, idrissRow}
 use Rattle.scenario_theory.specs.Rows.{booreAtkinsonRow, rowCount, placeAmong, idrissPlace, booreAtkinsonPlace}
@@ -33,11 +35,11 @@ use Rattle.scenario_theory.proofs.RefusalLaws.{answered, not-answered}
 
 -- ---- the row of a tabled period
 
-pub idriss-row : (period : ℕ) → isTabled idriss period ≡ true → idrissRow period < rowCount
+pub idriss-row : (period : ℕ) → hasRow idriss period ≡ true → idrissRow period < rowCount
 unfolding idrissRow
 idriss-row period e = ltb→lt _ _ (all-at (λ t. ltb (idrissRow t) rowCount) (0 ∷ idriss .periods) period tt e)
 
-pub boore-atkinson-row : (period : ℕ) → isTabled booreAtkinson period ≡ true → booreAtkinsonRow period < rowCount
+pub boore-atkinson-row : (period : ℕ) → hasRow booreAtkinson period ≡ true → booreAtkinsonRow period < rowCount
 unfolding booreAtkinsonRow
 boore-atkinson-row period e =
     ltb→lt _ _ (all-at (λ t. ltb (booreAtkinsonRow t) rowCount) (0 ∷ booreAtkinson .periods) period tt e)
@@ -67,7 +69,7 @@ module _ (first : ℕ) (m : Limits) (row : ℕ → ℕ) where
   -- what is computed once of the list
   pub record Listed : Type 0 where
     rises : T (rising (m .periods))
-    answers : T (all (λ t. not (isOutside t)) (0 ∷ m .periods))
+    answers : T (all (λ t. not (beyondPeriods t)) (0 ∷ m .periods))
     tabled : T (all (λ t. isRow (row t) (place t)) (0 ∷ m .periods))
     numbered : T (allBelow (length (m .periods)) (λ i. eqb (row (getD (m .periods) i 0)) (first + i)))
     some : 1 ≤ length (m .periods)
@@ -89,7 +91,7 @@ module _ (first : ℕ) (m : Limits) (row : ℕ → ℕ) where
     )
 
     -- just where it is answered, if it is not in the list
-    answered-inside : isTabled m t ≡ false → isOutside t ≡ false → Inside
+    answered-inside : hasRow m t ≡ false → beyondPeriods t ≡ false → Inside
     answered-inside none ok =
         let not-in = neither (eqb t 0) (among (m .periods) t) none in
         let first-in = among-at (m .periods) 0 (l .some) in
@@ -100,11 +102,14 @@ module _ (first : ℕ) (m : Limits) (row : ℕ → ℕ) where
         ⊎-elim (λ e. absurd (some e))
         (λ p. (
           elim (decLt 0 n) [ yes h ↦ h | no h ↦ absurd (omega (arith, low (omega arith), p .0, other)) ],
-          elim (decLt n (length (m .periods))) [ yes h ↦ h | no h ↦ absurd (omega (arith, high (omega (arith, l .some)), p .1)) ],
+          elim (decLt n (length (m .periods))) [
+            | yes h ↦ h
+            | no h ↦ absurd (omega (arith, high (omega (arith, l .some)), p .1))
+          ],
         ))
         (answered t ok)
 
-    outside-inside : isOutside t ≡ true → Inside → ⊥
+    outside-inside : beyondPeriods t ≡ true → Inside → ⊥
     outside-inside e h =
         let low : 0 < n → answeredPeriods .low < t = rw (l .least) at (ends .0 .below) in
         let high : n ≤ length (m .periods) - 1 → t ≤ answeredPeriods .high = rw (l .greatest) at (ends .1 .above) in
@@ -116,7 +121,7 @@ module _ (first : ℕ) (m : Limits) (row : ℕ → ℕ) where
     number i h =
         eqb→eq _ _ (below (length (m .periods)) (λ i. eqb (row (getD (m .periods) i 0)) (first + i)) (l .numbered) i h)
 
-    module _ (none : isTabled m t ≡ false) (ok : isOutside t ≡ false) where
+    module _ (none : hasRow m t ≡ false) (ok : beyondPeriods t ≡ false) where
       inside : Inside
       inside = answered-inside none ok
 
@@ -148,7 +153,7 @@ module _ (first : ℕ) (m : Limits) (row : ℕ → ℕ) where
     abbrev Placed : Bool → Type 0
     Placed outside = place t ≡ unlessRefused (6 when outside) (C.Accepted (placeBy m row t)) (C.Refused 6)
 
-    untabled : (outside : Bool) → isTabled m t ≡ false → isOutside t ≡ outside → Placed outside
+    untabled : (outside : Bool) → hasRow m t ≡ false → beyondPeriods t ≡ outside → Placed outside
     unfolding placeAmong
     untabled false none e =
         let h = answered-inside none e in
@@ -164,15 +169,16 @@ module _ (first : ℕ) (m : Limits) (row : ℕ → ℕ) where
         (λ q. absurd (outside-inside e (each (ltb 0 n) (ltb n (length (m .periods))) (ltb→lt _ _) (ltb→lt _ _) q)))
         (λ _. refl))
 
-    by-tabled : (tabled : Bool) → isTabled m t ≡ tabled → Placed (isOutside t)
+    by-tabled : (tabled : Bool) → hasRow m t ≡ tabled → Placed (beyondPeriods t)
     by-tabled true e =
-        let ok = not-true (isOutside t) (is-true _ (all-at (λ t. not (isOutside t)) (0 ∷ m .periods) t (l .answers) e)) in
+        let p = all-at (λ t. not (beyondPeriods t)) (0 ∷ m .periods) t (l .answers) e in
+        let ok = not-true (beyondPeriods t) (is-true _ p) in
         let k = row-is (row t) (place t) (all-at (λ t. isRow (row t) (place t)) (0 ∷ m .periods) t (l .tabled) e) in
         rw (ok, e) k
-    by-tabled false e = untabled (isOutside t) e refl
+    by-tabled false e = untabled (beyondPeriods t) e refl
 
-    placed : Placed (isOutside t)
-    placed = by-tabled (isTabled m t) refl
+    placed : Placed (beyondPeriods t)
+    placed = by-tabled (hasRow m t) refl
 
   -- the place of a period that is neither 0 nor in the list
   pub in-no-row : (t : ℕ) {n : ℕ} {c : Check} → Missed (Unit {0}) (0 ∷ m .periods) t → n ≡ countBelow (m .periods) t →
@@ -186,7 +192,7 @@ module _ (first : ℕ) (m : Limits) (row : ℕ → ℕ) where
 -- ---- of either model
 
 idriss-listed : Listed 0 idriss idrissRow
-unfolding idrissRow placeAmong countBelow isOutside allBelow
+unfolding idrissRow placeAmong countBelow beyondPeriods allBelow
 idriss-listed = record {
   rises = tt;
   answers = tt;
@@ -198,7 +204,7 @@ idriss-listed = record {
 }
 
 boore-atkinson-listed : Listed 1 booreAtkinson booreAtkinsonRow
-unfolding booreAtkinsonRow placeAmong countBelow isOutside allBelow
+unfolding booreAtkinsonRow placeAmong countBelow beyondPeriods allBelow
 boore-atkinson-listed = record {
   rises = tt;
   answers = tt;
@@ -209,30 +215,30 @@ boore-atkinson-listed = record {
   greatest = refl;
 }
 
-module _ (t : ℕ) (none : isTabled idriss t ≡ false) (ok : isOutside t ≡ false) where
+module _ (t : ℕ) (none : hasRow idriss t ≡ false) (ok : beyondPeriods t ≡ false) where
   pub idriss-between : BetweenRows idriss idrissRow t
   idriss-between = between-rows 0 idriss idrissRow idriss-listed t none ok
 
-module _ (t : ℕ) (none : isTabled booreAtkinson t ≡ false) (ok : isOutside t ≡ false) where
+module _ (t : ℕ) (none : hasRow booreAtkinson t ≡ false) (ok : beyondPeriods t ≡ false) where
   pub boore-atkinson-between : BetweenRows booreAtkinson booreAtkinsonRow t
   boore-atkinson-between = between-rows 1 booreAtkinson booreAtkinsonRow boore-atkinson-listed t none ok
 
 -- what the place of a period says of it
 module _ (m : Limits) (row : ℕ → ℕ) (t : ℕ) where
-  pub at-row : {k : ℕ} → placeBy m row t ≡ P.Row k → (isTabled m t ≡ true) × (k ≡ row t)
-  at-row = go (isTabled m t) refl
+  pub at-row : {k : ℕ} → placeBy m row t ≡ P.Row k → (hasRow m t ≡ true) × (k ≡ row t)
+  at-row = go (hasRow m t) refl
     where
-      go : (b : Bool) {k : ℕ} → isTabled m t ≡ b →
-          cond b (P.Row (row t)) (P.Between (row (neighbourBelow m t))) ≡ P.Row k → (isTabled m t ≡ true) × (k ≡ row t)
+      go : (b : Bool) {k : ℕ} → hasRow m t ≡ b →
+          cond b (P.Row (row t)) (P.Between (row (neighbourBelow m t))) ≡ P.Row k → (hasRow m t ≡ true) × (k ≡ row t)
       go true p e = (p, cc)
       go false p e = let z : _≡_ {A = ℕ} 0 1 = cc in absurd (omega arith)
 
-  pub between-of : {k : ℕ} → placeBy m row t ≡ P.Between k → (isTabled m t ≡ false) × (k ≡ row (neighbourBelow m t))
-  between-of = go (isTabled m t) refl
+  pub between-of : {k : ℕ} → placeBy m row t ≡ P.Between k → (hasRow m t ≡ false) × (k ≡ row (neighbourBelow m t))
+  between-of = go (hasRow m t) refl
     where
-      go : (b : Bool) {k : ℕ} → isTabled m t ≡ b →
+      go : (b : Bool) {k : ℕ} → hasRow m t ≡ b →
           cond b (P.Row (row t)) (P.Between (row (neighbourBelow m t))) ≡ P.Between k →
-          (isTabled m t ≡ false) × (k ≡ row (neighbourBelow m t))
+          (hasRow m t ≡ false) × (k ≡ row (neighbourBelow m t))
       go true p e = let z : _≡_ {A = ℕ} 0 1 = cc in absurd (omega arith)
       go false p e = (p, cc)
 
@@ -262,13 +268,13 @@ module _ {k : ℕ} (some : k ≡ 0 → ⊥) where
   period-from-50 h few = sym (by-idriss k few ∙ rw (ne-eqb k 0 some, le-ltb k 4 h) refl)
 
 -- the period of the row of a tabled period is that period; Idriss's row 0 is that of 0.01 s
-pub idriss-printed : (t : ℕ) → isTabled idriss t ≡ true → getD (idriss .periods) (idrissRow t) 0 ≡ idrissPrinted t
+pub idriss-printed : (t : ℕ) → hasRow idriss t ≡ true → getD (idriss .periods) (idrissRow t) 0 ≡ idrissPrinted t
 unfolding idrissRow
 idriss-printed t e =
     eqb→eq _ _
     (all-at (λ t. eqb (getD (idriss .periods) (idrissRow t) 0) (idrissPrinted t)) (0 ∷ idriss .periods) t tt e)
 
-pub boore-atkinson-printed : (t : ℕ) → isTabled booreAtkinson t ≡ true →
+pub boore-atkinson-printed : (t : ℕ) → hasRow booreAtkinson t ≡ true →
     getD (0 ∷ booreAtkinson .periods) (booreAtkinsonRow t) 0 ≡ t
 unfolding booreAtkinsonRow
 boore-atkinson-printed t e =
@@ -278,26 +284,26 @@ boore-atkinson-printed t e =
 -- ---- the periods of the rows, by a list of the periods of the rows
 
 module _ (first : ℕ) (m : Limits) (row : ℕ → ℕ) (l : Listed first m row)
-    (few : (t : ℕ) → isTabled m t ≡ true → row t < rowCount) (t : ℕ) where
-  tabled-at : (t : ℕ) → among (m .periods) t ≡ true → isTabled m t ≡ true
+    (few : (t : ℕ) → hasRow m t ≡ true → row t < rowCount) (t : ℕ) where
+  tabled-at : (t : ℕ) → among (m .periods) t ≡ true → hasRow m t ≡ true
   tabled-at t e = or-right (eqb t 0) e
 
   -- what holds of the place by the definitions holds of that by counting
-  by-place : (K : Check → Type 0) → (isOutside t ≡ true → K (C.Refused 6)) →
-      (isTabled m t ≡ true → isOutside t ≡ false → K (C.Accepted (P.Row (row t)))) →
-      (BetweenRows m row t → isTabled m t ≡ false → isOutside t ≡ false →
+  by-place : (K : Check → Type 0) → (beyondPeriods t ≡ true → K (C.Refused 6)) →
+      (hasRow m t ≡ true → beyondPeriods t ≡ false → K (C.Accepted (P.Row (row t)))) →
+      (BetweenRows m row t → hasRow m t ≡ false → beyondPeriods t ≡ false →
       K (C.Accepted (P.Between (row (neighbourBelow m t))))) → K (place first m row t)
-  by-place K out at between = rw (placed first m row l t) (outside (isOutside t) refl)
+  by-place K out at between = rw (placed first m row l t) (outside (beyondPeriods t) refl)
     where
-      tabled : (b : Bool) → isTabled m t ≡ b → isOutside t ≡ false →
+      tabled : (b : Bool) → hasRow m t ≡ b → beyondPeriods t ≡ false →
           K (C.Accepted (cond b (P.Row (row t)) (P.Between (row (neighbourBelow m t)))))
       tabled true e ok = at e ok
       tabled false e ok = between (between-rows first m row l t e ok) e ok
 
-      outside : (b : Bool) → isOutside t ≡ b →
+      outside : (b : Bool) → beyondPeriods t ≡ b →
           K (unlessRefused (6 when b) (C.Accepted (placeBy m row t)) (C.Refused 6))
       outside true e = out e
-      outside false e = tabled (isTabled m t) refl e
+      outside false e = tabled (hasRow m t) refl e
 
   in-table : InTable (place first m row t)
   in-table =
@@ -305,7 +311,7 @@ module _ (first : ℕ) (m : Limits) (row : ℕ → ℕ) (l : Listed first m row)
       (λ b _ _. omega (arith, few (neighbourAbove m t) (tabled-at _ (b .second)), b .next))
 
   periods-by-row : (printed : ℕ → ℕ) (list : List ℕ) →
-      ((t : ℕ) → isTabled m t ≡ true → getD list (row t) 0 ≡ printed t) →
+      ((t : ℕ) → hasRow m t ≡ true → getD list (row t) 0 ≡ printed t) →
       ((t : ℕ) → among (m .periods) t ≡ true → printed t ≡ t) →
       periodsAt list (place first m row t) ≡ rowPeriodsBy m printed t
   unfolding rowPeriodsBy
@@ -366,10 +372,11 @@ module _ (m : Limits) (row : ℕ → ℕ) (s : Scenario) where
 
         -- and the last, the period's
         last-check : {r : Check} → not (among (m .mechanisms) (s .mechanism)) ≡ false →
-            r ≡ unlessRefused (6 when isOutside (s .period)) (C.Accepted (placeBy m row (s .period))) (C.Refused 6) →
+            r ≡ unlessRefused (6 when beyondPeriods (s .period)) (C.Accepted (placeBy m row (s .period)))
+            (C.Refused 6) →
             r ≡ checkBy m row s
         unfolding checkBy refusalBy
-        last-check five h = h ∙ rw (two, three, four, five) (with-number (isOutside (s .period)) _)
+        last-check five h = h ∙ rw (two, three, four, five) (with-number (beyondPeriods (s .period)) _)
 
 -- none of those before the period's applies
 pub record NoneBefore (m : Limits) (s : Scenario) : Type 0 where

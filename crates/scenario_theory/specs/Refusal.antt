@@ -50,8 +50,8 @@ abbrev pub answeredPeriods : Range
 answeredPeriods = 10 to 10_000
 
 -- "Refusal 6 is left with 1 to 9 and above 10000" (W-201)
-unfoldable pub isOutside : ℕ → Bool
-isOutside T = not (eqb T 0) && beyond answeredPeriods T
+unfoldable pub beyondPeriods : ℕ → Bool
+beyondPeriods T = not (eqb T 0) && beyond answeredPeriods T
 
 -- 'What is turned away', 2 to 6: the first that applies to s by the limits of its model, 0 where none does
 unfoldable pub refusalBy : Limits → Scenario → ℕ
@@ -60,7 +60,7 @@ refusalBy m s =
     3 when beyond (m .distance) (s .distance) otherwise
     4 when beyond (m .velocity) (s .velocity) otherwise
     5 when not (among (m .mechanisms) (s .mechanism)) otherwise
-    6 when isOutside (s .period)
+    6 when beyondPeriods (s .period)
 
 -- and 1 to 6: 1 where the model is "neither 1 nor 2"
 unfoldable pub refusalOf : Scenario → ℕ

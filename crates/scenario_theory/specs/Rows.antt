@@ -1,6 +1,6 @@
 -- The rows of the tables by number, for the code alone: the definitions take the row that is printed with a period.
 use mathlib.Core.Path.{_≡_}
-use mathlib.Core.Bool.{Bool, true, false, cond, _&&_}
+use mathlib.Core.Bool.{Bool, true, cond, _&&_}
 use mathlib.Core.List.{List, _∷_}
 use Prim.Native.Nat.{ℕ, _+_, _-_, _<_}
 use lib.Dec.{eqb, ltb}
@@ -13,9 +13,9 @@ use Rattle.scenario_theory.specs.declared.Check.{Check}
 use Rattle.scenario_theory.specs.declared.Check.the-variants as C
 use Rattle.scenario_theory.specs.declared.RowPeriods.{RowPeriods}
 use Rattle.scenario_theory.specs.declared.RowPeriods.the-variants as R
-use Rattle.scenario_theory.specs.Checks.{_when_, _otherwise_, unlessRefused}
+use Rattle.scenario_theory.specs.Checks.{unlessRefused}
 use Rattle.scenario_theory.specs.Refusal.{Limits, idriss, booreAtkinson, refusalBy, refusalOf}
-use Rattle.scenario_theory.specs.Neighbours.{isTabled, neighbourBelow, neighbourAbove, idrissPrinted}
+use Rattle.scenario_theory.specs.Neighbours.{hasRow, neighbourBelow, neighbourAbove, idrissPrinted}
 
 -- how many there are of either model, counted from 0; the number itself stands for a period that has none
 abbrev pub rowCount : ℕ
@@ -32,7 +32,7 @@ booreAtkinsonRow T = placeIn (0 ∷ booreAtkinson .periods) T
 -- ---- where a period that is answered stands in the tables of a model, by the row of each period
 
 abbrev pub placeBy : Limits → (ℕ → ℕ) → ℕ → Place
-placeBy m row T = cond (isTabled m T) (P.Row (row T)) (P.Between (row (neighbourBelow m T)))
+placeBy m row T = cond (hasRow m T) (P.Row (row T)) (P.Between (row (neighbourBelow m T)))
 
 -- of the model 1, Idriss, or 2, Boore-Atkinson
 unfoldable pub placeOf : ℕ → ℕ → Place
@@ -55,10 +55,10 @@ placeAmong first periods T =
     cond (among periods T) (C.Accepted (P.Row (first + n)))
     (cond (ltb 0 n && ltb n (length periods)) (C.Accepted (P.Between (first + n - 1))) (C.Refused 6))
 
--- the row PGA, Boore-Atkinson's row 0, is no neighbour of any period
 unfoldable pub idrissPlace : ℕ → Check
 idrissPlace T = cond (eqb T 0) (C.Accepted (P.Row 0)) (placeAmong 0 (idriss .periods) T)
 
+-- the row PGA, row 0, is no neighbour of any period
 unfoldable pub booreAtkinsonPlace : ℕ → Check
 booreAtkinsonPlace T = cond (eqb T 0) (C.Accepted (P.Row 0)) (placeAmong 1 (booreAtkinson .periods) T)
 

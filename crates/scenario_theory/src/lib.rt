@@ -28,7 +28,7 @@ pub enum Check {
     Refused(u8),
 }
 
-// The periods of the two rows that an answer rests on, the lower and the upper, equal where the period has a row of its
+// The periods of the two rows that a median rests on, the lower and the upper, equal where the period has a row of its
 // own; or the number with which the model or the period is turned away.
 pub enum RowPeriods {
     Rows(u16, u16),

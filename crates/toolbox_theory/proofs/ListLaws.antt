@@ -175,14 +175,16 @@ below-least : (x y : ℕ) (ys : List ℕ) → x < y → T (all (ltb x) ys) → x
 unfolding least
 below-least x y [] h t = h
 below-least x y (z ∷ zs) h t =
-    let p = below-least x z zs (ltb→lt x z (and-left (ltb x z) (all (ltb x) zs) t)) (and-right (ltb x z) (all (ltb x) zs) t) in
+    let first = ltb→lt x z (and-left (ltb x z) (all (ltb x) zs) t) in
+    let p = below-least x z zs first (and-right (ltb x z) (all (ltb x) zs) t) in
     omega (arith, p)
 
 least-first : (y : ℕ) (ys : List ℕ) → T (all (ltb y) ys) → least (y ∷ ys) ≡ y
 unfolding least
 least-first y [] t = refl
 least-first y (z ∷ zs) t =
-    omega (arith, below-least y z zs (ltb→lt y z (and-left (ltb y z) (all (ltb y) zs) t)) (and-right (ltb y z) (all (ltb y) zs) t))
+    let first = ltb→lt y z (and-left (ltb y z) (all (ltb y) zs) t) in
+    omega (arith, below-least y z zs first (and-right (ltb y z) (all (ltb y) zs) t))
 
 -- all of those that pass are among all
 all-filter : (test other : ℕ → Bool) (l : List ℕ) → T (all test l) → T (all test (filter other l))

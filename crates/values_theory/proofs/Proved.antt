@@ -13,7 +13,7 @@ use Rattle.exact_theory.specs.Logarithm.{harmonic, lowerSum, upperSum, lnPair}
 use Rattle.exact_theory.specs.Root.{greatest, wholeRoot, rootValues, rootPair}
 use Rattle.exact_theory.specs.Formula.{Formula, eval, Defined}
 use Rattle.exact_theory.proofs.DefinedTest.{sound, defined}
-use Rattle.scenario_theory.specs.Refusal.{isOutside, refusalBy, refusalOf}
+use Rattle.scenario_theory.specs.Refusal.{beyondPeriods, refusalBy, refusalOf}
 use Rattle.record_theory.specs.Layout.{sizeOf, numbersOf, absentWritten}
 use Rattle.record_theory.specs.Outcome.{readingNumber, readingValues, scenarioIn, lengthBy, mapRefusal, readRefusal}
 use Rattle.record_theory.specs.Outcome.{readOf}
@@ -83,7 +83,7 @@ all-pass : T (every (λ k c. passes c) 0 values)
 unfolding passes matches constant lnConstant when merged zeroOver positive rowIn secondRowFor takesTable3 bnl
     alphaPart betaFactor _-q_ _*q_ sound same sameList eval lnPair lowerSum upperSum harmonic rootPair rootValues
     wholeRoot greatest leQ zeroQ negQ _+q_ _over_ readOf readRefusal mapRefusal scenarioIn lengthBy numbersOf sizeOf
-    absentWritten refusalOf refusalBy isOutside
+    absentWritten refusalOf refusalBy beyondPeriods
 all-pass = tt
 
 pub all-hold : AllHold values

@@ -3,7 +3,8 @@ use mathlib.Core.Path.{sym, _∙_}
 use borrow.Author.Needs.{needs}
 use Rattle.scenario_theory.proofs.RowLaws.{passed}
 use Rattle.engine_theory.specs.Evaluation.{answerOf}
-use Rattle.engine_theory.proofs.Laws.{fields-refused, fields-enclosed, enclosed-in-doubles, refused-in-doubles, doubles-answers}
+use Rattle.engine_theory.proofs.Laws.{fields-refused, fields-enclosed, enclosed-in-doubles, refused-in-doubles}
+use Rattle.engine_theory.proofs.Laws.{doubles-answers}
 use Rattle.engine_theory.proofs.ModelLaws.{sound}
 use Rattle.engine.proofs.answer_fields_in_doubles.Statement.{statement}
 use Rattle.engine.proofs.answer_fields_in_doubles.Tie as tie

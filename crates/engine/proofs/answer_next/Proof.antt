@@ -11,7 +11,9 @@ answer-next-spec =
     tie.close
     (tie.spec
     (λ c κs. search needs) (λ c. search needs)
-    (λ c κs. placed-read _ (sym (c .before .before .before .read-with-place .ensures .0) ∙ c .before .s .given .1) .looked)
+    (λ c κs.
+    let read = c .before .before .before .read-with-place .ensures .0 in
+    placed-read _ (sym read ∙ c .before .s .given .1) .looked)
     (λ c. search needs)
     (λ c. let g = c .before .before in
     let read = sym (g .before .before .read-with-place .ensures .0) ∙ g .s .given .1 in

@@ -25,7 +25,9 @@ median-rows-spec =
     Inv-loop μ-loop (λ c κs. search needs) (λ c κs. search needs) (λ c κs. search needs) (λ c κs. search needs)
     (λ c. (none-passed _ _ (c .before .no-pair .ensures) (c .no-pair2 .ensures), omega arith))
     (λ c κs. search needs) (λ c. search needs) (λ c. omega arith)
-    (λ c. let l = c .before .before .loop in (one-passed _ _ (l .i) (l .inv .0) (c .median-by-row .ensures), omega arith))
+    (λ c.
+    let l = c .before .before .loop in
+    (one-passed _ _ (l .i) (l .inv .0) (c .median-by-row .ensures), omega arith))
     (λ c.
     let l = c .before .loop in
     let v = c .before .before .before .before in

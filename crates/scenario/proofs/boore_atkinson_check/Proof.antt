@@ -30,7 +30,8 @@ boore-atkinson-check-spec =
     let three = four .before .before in
     let two = three .before .before in
     fails-5 booreAtkinson booreAtkinsonRow _ (sym (two .before .outside .ensures) ∙ two .if1 .left)
-    (sym (three .before .outside2 .ensures) ∙ three .if2 .left) (sym (four .before .outside3 .ensures) ∙ four .if3 .left)
+    (sym (three .before .outside2 .ensures) ∙ three .if2 .left)
+    (sym (four .before .outside3 .ensures) ∙ four .if3 .left)
     (sym (c .before .unknown .ensures) ∙ c .if4 .taken))
     (λ c κs. search needs)
     (λ c.
