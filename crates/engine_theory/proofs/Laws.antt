@@ -8,7 +8,7 @@ use Rattle.scenario_theory.specs.declared.Check.the-variants as C
 use Rattle.scenario_theory.specs.Refusal.{refusalOf}
 use Rattle.scenario_theory.specs.Rows.{checkOf}
 use Rattle.scenario_theory.proofs.CheckLaws.{is-refused}
-use Rattle.scenario_theory.proofs.RowLaws.{passed, failed}
+use Rattle.scenario_theory.proofs.CheckedLaws.{passed, failed}
 use Rattle.engine_theory.specs.declared.Enclosure.{Enclosure}
 use Rattle.engine_theory.specs.declared.Answer.{Answer}
 use Rattle.engine_theory.specs.declared.Doubles.{Doubles}

@@ -1,3 +1,5 @@
 pub mod CheckLaws
 pub mod RefusalLaws
 pub mod RowLaws
+pub mod PeriodLaws
+pub mod CheckedLaws

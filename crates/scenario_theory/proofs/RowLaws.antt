@@ -1,9 +1,9 @@
 -- Where a period stands in the tables of a model.
-use mathlib.Core.Path.{_≡_, refl, sym, ap, subst, _∙_}
+use mathlib.Core.Path.{_≡_, refl, sym, ap, _∙_}
 use mathlib.Core.Bool.{Bool, true, false, false≢true, not, cond, _&&_}
-use mathlib.Core.List.{List, _∷_}
+use mathlib.Core.List.{_∷_}
 use mathlib.Core.Logic.{⊎-elim}
-use Prim.Native.Nat.{ℕ, zero, suc, _+_, _-_, _≤_, _<_}
+use Prim.Native.Nat.{ℕ, _+_, _-_, _≤_, _<_}
 use native.Mathlib.Decide.{decLt}
 use native.Mathlib.Omega.{arith}
 use borrow.Author.Tests.{eq-eqb, ne-eqb, lt-ltb, le-ltb, not-true}
@@ -11,26 +11,15 @@ use lib.Dec.{T, eqb, ltb, ltb→lt, eqb→eq}
 use lib.ListN.{length, getD}
 use Rattle.toolbox_theory.specs.Lists.{among, countBelow}
 use Rattle.toolbox_theory.proofs.Tests.{is-true, each, by-test, allBelow, below}
-use Rattle.toolbox_theory.proofs.ListLaws.{Missed, earlier, missed, or-right, neither, all, all-at, rising}
-use Rattle.toolbox_theory.proofs.ListLaws.{Around, around, among-at}
-use Rattle.toolbox_theory.proofs.ListLaws.{between-places, greatest-below, least-above}
-use Rattle.scenario_theory.specs.declared.Scenario.{Scenario}
+use Rattle.toolbox_theory.proofs.ListLaws.{Missed, earlier, missed, neither, all, all-at, rising, Around, around}
+use Rattle.toolbox_theory.proofs.ListLaws.{among-at, between-places, greatest-below, least-above}
 use Rattle.scenario_theory.specs.declared.Check.{Check}
 use Rattle.scenario_theory.specs.declared.Check.the-variants as C
-use Rattle.scenario_theory.specs.declared.RowPeriods.{RowPeriods}
-use Rattle.scenario_theory.specs.declared.RowPeriods.the-variants as R
-use Rattle.scenario_theory.specs.declared.Place.{Place}
 use Rattle.scenario_theory.specs.declared.Place.the-variants as P
-use Rattle.scenario_theory.specs.Checks.{beyond, _when_, _otherwise_, unlessRefused}
+use Rattle.scenario_theory.specs.Checks.{_when_, unlessRefused}
 use Rattle.scenario_theory.specs.Refusal.{Limits, idriss, booreAtkinson, answeredPeriods, beyondPeriods}
-use Rattle.scenario_theory.specs.Refusal.{refusalBy}
-use Rattle.scenario_theory.specs.Refusal.{refusalOf}
-use Rattle.scenario_theory.specs.Neighbours.{hasRow, neighbourBelow, neighbourAbove, idrissPrinted, rowPeriodsBy}
-use Rattle.scenario_theory.specs.Neighbours.{rowPeriodsOf}
-use Rattle.scenario_theory.specs.Rows.{Looked, BetweenRows, placeBy, placeOf, checkBy, checkOf, idrissRow}
-use Rattle.scenario_theory.specs.Rows.{booreAtkinsonRow, rowCount, placeAmong, idrissPlace, booreAtkinsonPlace}
-use Rattle.scenario_theory.specs.Rows.{rowList, periodsAt, InTable, plainScenario}
-use Rattle.scenario_theory.proofs.CheckLaws.{unless-is}
+use Rattle.scenario_theory.specs.Neighbours.{hasRow, neighbourBelow, neighbourAbove, idrissPrinted}
+use Rattle.scenario_theory.specs.Rows.{BetweenRows, placeBy, idrissRow, booreAtkinsonRow, rowCount, placeAmong}
 use Rattle.scenario_theory.proofs.RefusalLaws.{answered, not-answered}
 
 -- ---- the row of a tabled period
@@ -63,7 +52,7 @@ module _ (first : ℕ) (m : Limits) (row : ℕ → ℕ) where
   count t = countBelow (m .periods) t
 
   -- by counting
-  abbrev place : ℕ → Check
+  abbrev pub place : ℕ → Check
   place t = cond (eqb t 0) (C.Accepted (P.Row 0)) (placeAmong first (m .periods) t)
 
   -- what is computed once of the list
@@ -136,7 +125,7 @@ module _ (first : ℕ) (m : Limits) (row : ℕ → ℕ) where
       unfolding neighbourAbove
       above-is = least-above (m .periods) t n (l .rises) not-listed refl (inside .1)
 
-      between-rows : BetweenRows m row t
+      pub between-rows : BetweenRows m row t
       between-rows =
           let here : n - 1 + 1 ≡ n = omega (arith, inside .0) in
           let r = between-places (m .periods) t (n - 1) (l .rises) not-listed here (omega (arith, here, inside .1)) in
@@ -177,7 +166,7 @@ module _ (first : ℕ) (m : Limits) (row : ℕ → ℕ) where
         rw (ok, e) k
     by-tabled false e = untabled (beyondPeriods t) e refl
 
-    placed : Placed (beyondPeriods t)
+    pub placed : Placed (beyondPeriods t)
     placed = by-tabled (hasRow m t) refl
 
   -- the place of a period that is neither 0 nor in the list
@@ -191,7 +180,7 @@ module _ (first : ℕ) (m : Limits) (row : ℕ → ℕ) where
 
 -- ---- of either model
 
-idriss-listed : Listed 0 idriss idrissRow
+pub idriss-listed : Listed 0 idriss idrissRow
 unfolding idrissRow placeAmong countBelow beyondPeriods allBelow
 idriss-listed = record {
   rises = tt;
@@ -203,7 +192,7 @@ idriss-listed = record {
   greatest = refl;
 }
 
-boore-atkinson-listed : Listed 1 booreAtkinson booreAtkinsonRow
+pub boore-atkinson-listed : Listed 1 booreAtkinson booreAtkinsonRow
 unfolding booreAtkinsonRow placeAmong countBelow beyondPeriods allBelow
 boore-atkinson-listed = record {
   rises = tt;
@@ -280,172 +269,3 @@ unfolding booreAtkinsonRow
 boore-atkinson-printed t e =
     eqb→eq _ _
     (all-at (λ t. eqb (getD (0 ∷ booreAtkinson .periods) (booreAtkinsonRow t) 0) t) (0 ∷ booreAtkinson .periods) t tt e)
-
--- ---- the periods of the rows, by a list of the periods of the rows
-
-module _ (first : ℕ) (m : Limits) (row : ℕ → ℕ) (l : Listed first m row)
-    (few : (t : ℕ) → hasRow m t ≡ true → row t < rowCount) (t : ℕ) where
-  tabled-at : (t : ℕ) → among (m .periods) t ≡ true → hasRow m t ≡ true
-  tabled-at t e = or-right (eqb t 0) e
-
-  -- what holds of the place by the definitions holds of that by counting
-  by-place : (K : Check → Type 0) → (beyondPeriods t ≡ true → K (C.Refused 6)) →
-      (hasRow m t ≡ true → beyondPeriods t ≡ false → K (C.Accepted (P.Row (row t)))) →
-      (BetweenRows m row t → hasRow m t ≡ false → beyondPeriods t ≡ false →
-      K (C.Accepted (P.Between (row (neighbourBelow m t))))) → K (place first m row t)
-  by-place K out at between = rw (placed first m row l t) (outside (beyondPeriods t) refl)
-    where
-      tabled : (b : Bool) → hasRow m t ≡ b → beyondPeriods t ≡ false →
-          K (C.Accepted (cond b (P.Row (row t)) (P.Between (row (neighbourBelow m t)))))
-      tabled true e ok = at e ok
-      tabled false e ok = between (between-rows first m row l t e ok) e ok
-
-      outside : (b : Bool) → beyondPeriods t ≡ b →
-          K (unlessRefused (6 when b) (C.Accepted (placeBy m row t)) (C.Refused 6))
-      outside true e = out e
-      outside false e = tabled (hasRow m t) refl e
-
-  in-table : InTable (place first m row t)
-  in-table =
-      by-place InTable (λ _. tt) (λ e _. few t e)
-      (λ b _ _. omega (arith, few (neighbourAbove m t) (tabled-at _ (b .second)), b .next))
-
-  periods-by-row : (printed : ℕ → ℕ) (list : List ℕ) →
-      ((t : ℕ) → hasRow m t ≡ true → getD list (row t) 0 ≡ printed t) →
-      ((t : ℕ) → among (m .periods) t ≡ true → printed t ≡ t) →
-      periodsAt list (place first m row t) ≡ rowPeriodsBy m printed t
-  unfolding rowPeriodsBy
-  periods-by-row printed list reads same =
-      let at : (t : ℕ) → among (m .periods) t ≡ true → getD list (row t) 0 ≡ t =
-      λ t e. reads t (tabled-at t e) ∙ same t e in
-      by-place (λ c. periodsAt list c ≡ rowPeriodsBy m printed t) (λ e. rw e refl)
-      (λ e ok. rw (ok, e, reads t e) refl)
-      (λ b e ok. rw (ok, e, ← b .next, at _ (b .first), at _ (b .second)) refl)
-
-idriss-in-table : (t : ℕ) → InTable (idrissPlace t)
-unfolding idrissPlace
-idriss-in-table t = in-table 0 idriss idrissRow idriss-listed idriss-row t
-
-boore-atkinson-in-table : (t : ℕ) → InTable (booreAtkinsonPlace t)
-unfolding booreAtkinsonPlace
-boore-atkinson-in-table t = in-table 1 booreAtkinson booreAtkinsonRow boore-atkinson-listed boore-atkinson-row t
-
-idriss-periods : (t : ℕ) → periodsAt (idriss .periods) (idrissPlace t) ≡ rowPeriodsBy idriss idrissPrinted t
-unfolding idrissPlace
-idriss-periods t =
-    periods-by-row 0 idriss idrissRow idriss-listed idriss-row t idrissPrinted (idriss .periods) idriss-printed
-    (λ t e. eqb→eq _ _ (all-at (λ t. eqb (idrissPrinted t) t) (idriss .periods) t tt e))
-
-boore-atkinson-periods : (t : ℕ) →
-    periodsAt (0 ∷ booreAtkinson .periods) (booreAtkinsonPlace t) ≡ rowPeriodsBy booreAtkinson (λ t. t) t
-unfolding booreAtkinsonPlace
-boore-atkinson-periods t =
-    periods-by-row 1 booreAtkinson booreAtkinsonRow boore-atkinson-listed boore-atkinson-row t (λ t. t)
-    (0 ∷ booreAtkinson .periods) boore-atkinson-printed (λ t e. refl)
-
--- ---- the checks of a program are those of a model's column, one by one
-
-with-number : (b : Bool) (c : Check) →
-    unlessRefused (6 when b) c (C.Refused 6) ≡ unlessRefused (6 when b) c (C.Refused (6 when b))
-with-number true c = refl
-with-number false c = refl
-
-module _ (m : Limits) (row : ℕ → ℕ) (s : Scenario) where
-  pub fails-2 : beyond (m .magnitude) (s .magnitude) ≡ true → C.Refused 2 ≡ checkBy m row s
-  unfolding checkBy refusalBy
-  fails-2 e = rw e refl
-
-  module _ (two : beyond (m .magnitude) (s .magnitude) ≡ false) where
-    pub fails-3 : beyond (m .distance) (s .distance) ≡ true → C.Refused 3 ≡ checkBy m row s
-    unfolding checkBy refusalBy
-    fails-3 e = rw (two, e) refl
-
-    module _ (three : beyond (m .distance) (s .distance) ≡ false) where
-      pub fails-4 : beyond (m .velocity) (s .velocity) ≡ true → C.Refused 4 ≡ checkBy m row s
-      unfolding checkBy refusalBy
-      fails-4 e = rw (two, three, e) refl
-
-      module _ (four : beyond (m .velocity) (s .velocity) ≡ false) where
-        pub fails-5 : not (among (m .mechanisms) (s .mechanism)) ≡ true → C.Refused 5 ≡ checkBy m row s
-        unfolding checkBy refusalBy
-        fails-5 e = rw (two, three, four, e) refl
-
-        -- and the last, the period's
-        last-check : {r : Check} → not (among (m .mechanisms) (s .mechanism)) ≡ false →
-            r ≡ unlessRefused (6 when beyondPeriods (s .period)) (C.Accepted (placeBy m row (s .period)))
-            (C.Refused 6) →
-            r ≡ checkBy m row s
-        unfolding checkBy refusalBy
-        last-check five h = h ∙ rw (two, three, four, five) (with-number (beyondPeriods (s .period)) _)
-
--- none of those before the period's applies
-pub record NoneBefore (m : Limits) (s : Scenario) : Type 0 where
-  pub two : beyond (m .magnitude) (s .magnitude) ≡ false
-  pub three : beyond (m .distance) (s .distance) ≡ false
-  pub four : beyond (m .velocity) (s .velocity) ≡ false
-  pub five : not (among (m .mechanisms) (s .mechanism)) ≡ false
-
-pub idriss-last : {s : Scenario} {r : Check} → NoneBefore idriss s → r ≡ idrissPlace (s .period) →
-    r ≡ checkBy idriss idrissRow s
-unfolding idrissPlace
-idriss-last {s} n h =
-    last-check idriss idrissRow s (n .two) (n .three) (n .four) (n .five)
-    (h ∙ placed 0 idriss idrissRow idriss-listed (s .period))
-
-pub boore-atkinson-last : {s : Scenario} {r : Check} → NoneBefore booreAtkinson s → r ≡ booreAtkinsonPlace (s .period) →
-    r ≡ checkBy booreAtkinson booreAtkinsonRow s
-unfolding booreAtkinsonPlace
-boore-atkinson-last {s} n h =
-    last-check booreAtkinson booreAtkinsonRow s (n .two) (n .three) (n .four) (n .five)
-    (h ∙ placed 1 booreAtkinson booreAtkinsonRow boore-atkinson-listed (s .period))
-
--- ---- the periods of the rows, as the checks of a scenario look them up
-
-module _ (model t : ℕ) where
-  abbrev plain : Scenario
-  plain = plainScenario model t
-
-  -- whether the model is 1, and whether it is 2
-  by-model : (first second : Bool) →
-      let number = cond first (refusalBy idriss plain) (cond second (refusalBy booreAtkinson plain) 1) in
-      let place = cond first (placeBy idriss idrissRow t) (placeBy booreAtkinson booreAtkinsonRow t) in
-      let check = unlessRefused number (C.Accepted place) (C.Refused number) in
-      InTable check ×
-      (periodsAt (cond first (idriss .periods) (0 ∷ booreAtkinson .periods)) check ≡
-      cond first (rowPeriodsBy idriss idrissPrinted t)
-      (cond second (rowPeriodsBy booreAtkinson (λ t. t) t) (R.Refused 1)))
-  unfolding checkBy
-  by-model true second =
-      subst (λ c. InTable c × (periodsAt (idriss .periods) c ≡ rowPeriodsBy idriss idrissPrinted t))
-      (idriss-last {s = plain} (record { two = refl; three = refl; four = refl; five = refl }) refl)
-      (idriss-in-table t, idriss-periods t)
-  by-model false true =
-      subst (λ c. InTable c × (periodsAt (0 ∷ booreAtkinson .periods) c ≡ rowPeriodsBy booreAtkinson (λ t. t) t))
-      (boore-atkinson-last {s = plain} (record { two = refl; three = refl; four = refl; five = refl }) refl)
-      (boore-atkinson-in-table t, boore-atkinson-periods t)
-  by-model false false = (tt, refl)
-
-  pub looks-up : InTable (checkOf (plainScenario model t)) ×
-      (periodsAt (rowList model) (checkOf (plainScenario model t)) ≡ rowPeriodsOf model t)
-  unfolding checkOf placeOf refusalOf rowPeriodsOf
-  looks-up = by-model (eqb model 1) (eqb model 2)
-
--- ---- what a check has shown
-
-pub passed : (s : Scenario) {p : Place} → checkOf s ≡ C.Accepted p → Looked s p
-unfolding checkOf
-passed s e =
-    ⊎-elim (λ p. record { accepted = p .0; place = cc }) (λ p. record { accepted = cc; place = cc })
-    (unless-is (refusalOf s) e)
-
--- the number of a check that fails is not 0
-pub record Failed (s : Scenario) (k : ℕ) : Type 0 where
-  pub number : k ≡ refusalOf s
-  pub some : k ≡ 0 → ⊥
-
-pub failed : (s : Scenario) {k : ℕ} → checkOf s ≡ C.Refused k → Failed s k
-unfolding checkOf
-failed s {k} e =
-    ⊎-elim (λ p. let z : _≡_ {A = ℕ} 0 1 = cc in absurd (omega arith))
-    (λ p. let same : k ≡ refusalOf s = cc in record { number = same; some = λ z. p .0 (sym same ∙ z) })
-    (unless-is (refusalOf s) e)

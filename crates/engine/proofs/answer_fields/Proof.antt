@@ -1,7 +1,7 @@
 -- `answer_fields` meets its contract.
 use mathlib.Core.Path.{sym, _∙_}
 use borrow.Author.Needs.{needs}
-use Rattle.scenario_theory.proofs.RowLaws.{passed}
+use Rattle.scenario_theory.proofs.CheckedLaws.{passed}
 use Rattle.engine_theory.specs.Evaluation.{answerOf}
 use Rattle.engine_theory.proofs.Laws.{answers, fields-refused, fields-enclosed}
 use Rattle.engine.proofs.answer_fields.Statement.{statement}

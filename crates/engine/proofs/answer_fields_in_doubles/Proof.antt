@@ -1,7 +1,7 @@
 -- `answer_fields_in_doubles` meets its contract.
 use mathlib.Core.Path.{sym, _∙_}
 use borrow.Author.Needs.{needs}
-use Rattle.scenario_theory.proofs.RowLaws.{passed}
+use Rattle.scenario_theory.proofs.CheckedLaws.{passed}
 use Rattle.engine_theory.specs.Evaluation.{answerOf}
 use Rattle.engine_theory.proofs.Laws.{fields-refused, fields-enclosed, enclosed-in-doubles, refused-in-doubles}
 use Rattle.engine_theory.proofs.Laws.{doubles-answers}

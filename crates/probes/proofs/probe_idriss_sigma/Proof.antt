@@ -4,7 +4,7 @@ use borrow.Author.Needs.{needs}
 use borrow.Author.Tests.{ne-eqb}
 use Rattle.scenario_theory.specs.declared.Scenario.{Scenario}
 use Rattle.scenario_theory.specs.Rows.{placeOf, scenarioWith}
-use Rattle.scenario_theory.proofs.RowLaws.{passed, failed}
+use Rattle.scenario_theory.proofs.CheckedLaws.{passed, failed}
 use Rattle.probes.specs.Probe.{told, isTaken, probedIdrissSigma}
 use Rattle.probes.proofs.probe_idriss_sigma.Statement.{statement}
 use Rattle.probes.proofs.probe_idriss_sigma.Tie as tie

@@ -3,7 +3,7 @@ use mathlib.Core.Path.{sym, _∙_}
 use borrow.Author.Needs.{needs}
 use Rattle.scenario_theory.specs.Refusal.{booreAtkinson}
 use Rattle.scenario_theory.specs.Rows.{booreAtkinsonRow}
-use Rattle.scenario_theory.proofs.RowLaws.{fails-2, fails-3, fails-4, fails-5, boore-atkinson-last}
+use Rattle.scenario_theory.proofs.CheckedLaws.{fails-2, fails-3, fails-4, fails-5, boore-atkinson-last}
 use Rattle.scenario.proofs.boore_atkinson_check.Statement.{statement}
 use Rattle.scenario.proofs.boore_atkinson_check.Tie as tie
 

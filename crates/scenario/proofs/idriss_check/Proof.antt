@@ -3,7 +3,7 @@ use mathlib.Core.Path.{sym, _∙_}
 use borrow.Author.Needs.{needs}
 use Rattle.scenario_theory.specs.Refusal.{idriss}
 use Rattle.scenario_theory.specs.Rows.{idrissRow}
-use Rattle.scenario_theory.proofs.RowLaws.{fails-2, fails-3, fails-4, fails-5, idriss-last}
+use Rattle.scenario_theory.proofs.CheckedLaws.{fails-2, fails-3, fails-4, fails-5, idriss-last}
 use Rattle.scenario.proofs.idriss_check.Statement.{statement}
 use Rattle.scenario.proofs.idriss_check.Tie as tie
 

@@ -1,7 +1,7 @@
 -- `refusal` meets its contract.
 use mathlib.Core.Path.{sym, _∙_}
 use borrow.Author.Needs.{needs}
-use Rattle.scenario_theory.proofs.RowLaws.{passed, failed}
+use Rattle.scenario_theory.proofs.CheckedLaws.{passed, failed}
 use Rattle.scenario.proofs.refusal.Statement.{statement}
 use Rattle.scenario.proofs.refusal.Tie as tie
 

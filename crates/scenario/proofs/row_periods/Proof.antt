@@ -1,7 +1,7 @@
 -- `row_periods` meets its contract.
 use mathlib.Core.Path.{_∙_}
 use borrow.Author.Needs.{needs}
-use Rattle.scenario_theory.proofs.RowLaws.{looks-up}
+use Rattle.scenario_theory.proofs.CheckedLaws.{looks-up}
 use Rattle.scenario.proofs.row_periods.Statement.{statement}
 use Rattle.scenario.proofs.row_periods.Tie as tie
 
