@@ -1,5 +1,5 @@
 /* Ground motion with proved ends, for programs in C: the safe way to the functions of fusnoch.h that take a pointer,
-   and the words of the refusals and of the rows that an answer rests on.  fusnoch_refusal, fusnoch_answer_fields,
+   and the words of the refusals and of the rows that a median rests on.  fusnoch_refusal, fusnoch_answer_fields,
    fusnoch_answer_fields_in_doubles and fusnoch_rows take no pointer and are called as they are.
 
    The number of a result is 0, or that of the refusal; a refused result has zeros for all else.  A null pointer counts
@@ -34,7 +34,7 @@ const char *ground_motion_words(uint8_t number);
 /* Room for the words of ground_motion_rows_words. */
 enum { GROUND_MOTION_ROWS_ROOM = 64 };
 
-/* Puts in the room, and returns, what an answer of a model at a period rests on: "0.070 s: between 0.050 and 0.075",
+/* Puts in the room, and returns, what the median of a model at a period rests on: "0.070 s: between 0.050 and 0.075",
    "0.075 s: the row 0.075", "PGA: the row 0.010"; or the refusal, "refusal 1, model: neither 1 nor 2". */
 const char *ground_motion_rows_words(char room[GROUND_MOTION_ROWS_ROOM], uint8_t model, uint16_t period);
 

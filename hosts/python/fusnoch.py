@@ -144,7 +144,7 @@ def _name(period):
 
 
 class Rows(NamedTuple):
-    """The periods, in 0.001 s, of the two rows that an answer rests on, equal where it is one; 0 is the row PGA."""
+    """The periods, in 0.001 s, of the two rows that a median rests on, equal where it is one; 0 is the row PGA."""
 
     lower: int
     upper: int
@@ -185,7 +185,7 @@ def refusal(scenario):
 
 
 def rows(model, period):
-    """Return the rows that an answer of a model at a period rests on."""
+    """Return the rows that the median of a model at a period rests on, and the sigma of Boore-Atkinson."""
     _must_fit('model', c_uint8, model)
     _must_fit('period', c_uint16, period)
     periods = LIBRARY.fusnoch_rows(model, period)

@@ -33,7 +33,7 @@ pub struct Enclosure<End = i64> {
     pub sigma_high: End,
 }
 
-/// The periods, in 0.001 s, of the two rows that an answer rests on, equal where it is one; 0 is the row PGA. Shown, it
+/// The periods, in 0.001 s, of the two rows that a median rests on, equal where it is one; 0 is the row PGA. Shown, it
 /// is `between 0.050 and 0.075` or `the row 0.075`.
 #[repr(C)]
 #[derive(Clone, Copy, Debug, PartialEq, Eq)]
@@ -144,7 +144,7 @@ pub fn check(scenario: &Scenario) -> Result<(), Refusal> {
     unless_refused(unsafe { raw::fusnoch_refusal(*scenario) }, ())
 }
 
-/// The rows that an answer of a model at a period rests on.
+/// The rows that the median of a model at a period rests on, and the sigma of Boore-Atkinson.
 pub fn rows(model: u8, period: u16) -> Result<Rows, Refusal> {
     let periods = unsafe { raw::fusnoch_rows(model, period) };
     unless_refused(periods.number, periods.rows)
