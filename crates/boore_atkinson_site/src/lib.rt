@@ -13,13 +13,13 @@ ghost use Rattle.interval_theory.specs.Bound.{SignedSized};
 ghost use Rattle.boore_atkinson_theory.specs.Sizes.{linearMost, curveMost, nonlinearMost};
 use boore_atkinson_theory::SiteRow;
 use interval::hull;
-use interval::max;
-use interval::min;
 use interval::multiple;
 use interval::product;
 use interval::sum;
 use interval_theory::Ends;
 use interval_theory::SignedPair;
+use order::max;
+use order::min;
 
 // ln(0.1/0.06), 1/ln(300/180), 1/ln(760/300), and c and d over the slope.
 const MINUS_LN_LOW: Ends = Ends {

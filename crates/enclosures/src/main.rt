@@ -3,10 +3,10 @@
 ghost use lib.ListN.{length};
 ghost use Rattle.enclosures_theory.specs.Transfers.{ReadInto, WrittenOf};
 use enclosures_theory::Transfer;
+use error_line::put_error;
 use libc::STDERR_FILENO;
 use libc::STDIN_FILENO;
 use libc::STDOUT_FILENO;
-use page::put_error;
 use page::put_output;
 
 const BYTES_TAKEN: usize = 4_096;

@@ -10,7 +10,8 @@ ghost use Rattle.record_theory.specs.Outcome.{scenarioIn, readRefusal};
 ghost use Rattle.engine_theory.specs.Promise.{AnswerPromise, NextPromise, DoublesPromise};
 ghost use Rattle.engine_theory.specs.Steps.{TakenBy, firstIn, lastIn, idrissRowsOf, booreAtkinsonRowsOf};
 ghost use Rattle.engine_theory.specs.Evaluation.{enclosureOf, answerOf, recordAnswerOf, nextOf};
-ghost use Rattle.engine_theory.specs.Evaluation.{SmallEnclosure, doubleOf, doublesOf, inDoubles};
+ghost use Rattle.engine_theory.specs.Evaluation.{inDoubles};
+use doubles::as_doubles;
 pub use engine_theory::Answer;
 pub use engine_theory::Doubles;
 pub use engine_theory::DoublesAnswer;
@@ -54,7 +55,7 @@ fn between_idriss(s: Scenario, k: usize, rows: TwoRows) -> Enclosure
     let step = interpolation::step(idriss_period(k), s.period, idriss_period(k + 1));
     Enclosure {
         median: interpolated(rows.lower, rows.upper, step.part, step.whole),
-        sigma: idriss::sigma_between(s.period, s.magnitude),
+        sigma: idriss_sigma::sigma_between(s.period, s.magnitude),
     }
 }
 
@@ -65,7 +66,7 @@ fn at_idriss_row(s: Scenario, k: usize, rows: TwoRows) -> Enclosure
 {
     Enclosure {
         median: ends(rows.upper),
-        sigma: idriss::sigma(k, s.period, s.magnitude),
+        sigma: idriss_sigma::sigma(k, s.period, s.magnitude),
     }
 }
 
@@ -74,7 +75,7 @@ fn by_idriss(s: Scenario, place: Place) -> Enclosure
     ensures { λ r. ⌜ r ≡ enclosureOf s ⌝ }
 {
     let rows = idriss::median_rows(
-        idriss::takes_table_3(s.magnitude),
+        idriss_tables::takes_table_3(s.magnitude),
         first_row(place),
         last_row(place),
         s.magnitude,
@@ -99,7 +100,7 @@ fn between_boore_atkinson(s: Scenario, k: usize, rows: TwoRows) -> Enclosure
         s.period,
         boore_atkinson_period(k + 1),
     );
-    let sigmas = boore_atkinson::sigma_rows(k, s.mechanism);
+    let sigmas = boore_atkinson_sigma::sigma_rows(k, s.mechanism);
     Enclosure {
         median: interpolated(rows.lower, rows.upper, step.part, step.whole),
         sigma: interpolated(sigmas.lower, sigmas.upper, step.part, step.whole),
@@ -113,7 +114,7 @@ fn at_boore_atkinson_row(s: Scenario, k: usize, rows: TwoRows) -> Enclosure
 {
     Enclosure {
         median: ends(rows.upper),
-        sigma: boore_atkinson::sigma(k, s.mechanism),
+        sigma: boore_atkinson_sigma::sigma(k, s.mechanism),
     }
 }
 
@@ -219,25 +220,6 @@ pub fn answer_record(bytes: &[u8]) -> Answer
     match answer_next(bytes) {
         NextAnswer::Enclosed(e, _) => Answer::Enclosed(e),
         NextAnswer::Refused(k) => Answer::Refused(k),
-    }
-}
-
-fn double(z: i64) -> f64
-    requires { ⌜ natAbs z < 2 ^ 53 ⌝ }
-    ensures { λ r. ⌜ r ≡ doubleOf z ⌝ }
-{
-    z as f64
-}
-
-fn as_doubles(e: Enclosure) -> Doubles
-    requires { ⌜ SmallEnclosure e ⌝ }
-    ensures { λ r. ⌜ r ≡ doublesOf e ⌝ }
-{
-    Doubles {
-        median_low: double(e.median.low),
-        median_high: double(e.median.high),
-        sigma_low: double(e.sigma.low),
-        sigma_high: double(e.sigma.high),
     }
 }
 

@@ -1,19 +1,16 @@
-// The median and sigma of Idriss 2014, each by two ends that enclose the exact value, in units of 10^-9.
+// The median of Idriss 2014, by two ends that enclose the exact value, in units of 10^-9.
 ghost use mathlib.Core.Path.{_≡_};
 ghost use Prim.Native.Nat.{_≤_, _<_};
 ghost use Rattle.interval_theory.specs.Bound.{Sized};
 ghost use Rattle.logarithm_theory.specs.Promise.{lnWidth};
 ghost use Rattle.logarithm_theory.specs.Bound.{lnMost};
 ghost use Rattle.interpolation_theory.specs.Evaluation.{twoRowsOf};
-ghost use Rattle.scenario_theory.specs.Rows.{idrissRow, rowCount};
-ghost use Rattle.idriss_theory.specs.Tables.{takesTable3};
+ghost use Rattle.scenario_theory.specs.Rows.{rowCount};
 ghost use Rattle.idriss_theory.specs.Rows.{rowAt, RowLimits};
 ghost use Rattle.idriss_theory.specs.Median.{F};
-ghost use Rattle.idriss_theory.specs.Sigma.{clamp};
-ghost use Rattle.idriss_theory.specs.Promise.{MedianDomain, MedianEnds, SigmaDomain, SigmaEnds};
+ghost use Rattle.idriss_theory.specs.Promise.{MedianDomain, MedianEnds};
 ghost use Rattle.idriss_theory.specs.Evaluation.{AlphaDomain, alphaSum, gainsOf, lossesOf, distanceLnOf, vs30LnOf};
 ghost use Rattle.idriss_theory.specs.Evaluation.{distanceTermOf, siteTermOf, medianPairBy, medianPairOf, medianOf};
-ghost use Rattle.idriss_theory.specs.Evaluation.{clampedPeriod, periodLnOf, sigmaOf};
 ghost use Rattle.idriss_theory.specs.Sizes.{alphaMost, exactMost, distanceTermMost, siteTermMost};
 use idriss_tables as table;
 use idriss_theory::Row;
@@ -22,13 +19,6 @@ use interpolation_theory::TwoRows;
 use interval_theory::Ends;
 use interval_theory::SignedEnds;
 use interval_theory::SignedPair;
-
-// Whether the magnitude takes Table 3, and not Table 2.
-pub fn takes_table_3(magnitude: u16) -> bool
-    ensures { λ r. ⌜ r ≡ takesTable3 magnitude ⌝ }
-{
-    675 < magnitude
-}
 
 // a1 + a2 M + a3 (8.5 − M)², where none of the three is below zero.
 fn alpha_sum(a1: u32, a2: u32, a3: u32, m: u64) -> u64
@@ -80,7 +70,7 @@ fn vs30_ln(vs30: u64) -> Ends
     requires { ⌜ 4_500 ≤ vs30 ⌝ }
     ensures { λ l. ⌜ (l ≡ vs30LnOf vs30) × Sized l lnWidth lnMost ⌝ }
 {
-    logarithm::ln(interval::min(vs30, 12_000), 10)
+    logarithm::ln(order::min(vs30, 12_000), 10)
 }
 
 // (β1 + β2 M) ln(R + 10), by that logarithm.
@@ -175,66 +165,4 @@ pub fn median_rows(
         i += 1;
     }
     TwoRows { lower, upper }
-}
-
-// x held to the range from low to high.
-fn clamp(low: u16, high: u16, x: u16) -> u16
-    requires { ⌜ low ≤ high ⌝ }
-    ensures { λ r. ⌜ r ≡ clamp low high x ⌝ }
-{
-    if x < low {
-        return low;
-    }
-    if high < x {
-        return high;
-    }
-    x
-}
-
-// The absolute value of ln T, T clamped, of a period that has row k: it stands in the list.
-fn listed_ln(k: usize, period: u16) -> Ends
-    requires { ⌜ SigmaDomain period × (k ≡ idrissRow period) ⌝ }
-    ensures { λ l. ⌜ l ≡ periodLnOf (clampedPeriod period) ⌝ }
-{
-    table::period_logarithm(clamp(4, 17, k as u16) as usize)
-}
-
-// The same of any period, by the engine's own logarithm.
-fn period_ln(period: u16) -> Ends
-    ensures { λ l. ⌜ l ≡ periodLnOf (clampedPeriod period) ⌝ }
-{
-    let t = clamp(50, 3_000, period) as u64;
-    logarithm::ln(interval::max(t, 1_000), interval::min(t, 1_000))
-}
-
-// 1.18 + 0.035 ln T − 0.06 M, by the absolute value of ln T, T clamped.
-fn sigma_by(l: Ends, period: u16, magnitude: u16) -> SignedEnds
-    requires { ⌜ l ≡ periodLnOf (clampedPeriod period) ⌝ }
-    ensures { λ r. ⌜ r ≡ sigmaOf period magnitude ⌝ }
-    ensures { λ r. ⌜ SigmaEnds period magnitude r ⌝ }
-{
-    let m = 600_000 * clamp(500, 750, magnitude) as u64;
-    let t = clamp(50, 3_000, period);
-    let term = interval::multiple(700_000, l);
-    if t < 1_000 {
-        return interval::between(1_180_000_000, m + term.high, 1_180_000_000, m + term.low);
-    }
-    interval::between(1_180_000_000 + term.low, m, 1_180_000_000 + term.high, m)
-}
-
-// Sigma at a period T that has row k.
-pub fn sigma(k: usize, period: u16, magnitude: u16) -> SignedEnds
-    requires { ⌜ SigmaDomain period × (k ≡ idrissRow period) ⌝ }
-    ensures { λ r. ⌜ r ≡ sigmaOf period magnitude ⌝ }
-    ensures { λ r. ⌜ SigmaEnds period magnitude r ⌝ }
-{
-    sigma_by(listed_ln(k, period), period, magnitude)
-}
-
-// Sigma at any period T.
-pub fn sigma_between(period: u16, magnitude: u16) -> SignedEnds
-    ensures { λ r. ⌜ r ≡ sigmaOf period magnitude ⌝ }
-    ensures { λ r. ⌜ SigmaEnds period magnitude r ⌝ }
-{
-    sigma_by(period_ln(period), period, magnitude)
 }

@@ -6,7 +6,7 @@ ghost use mathlib.Core.Bool.{cond};
 ghost use mathlib.Core.List.{map};
 ghost use Prim.Native.Nat.{_<_};
 ghost use Rattle.scenario_theory.specs.Rows.{rowCount};
-ghost use Rattle.idriss_theory.specs.Tables.{table2, table3};
+ghost use Rattle.idriss_theory.specs.Tables.{table2, table3, takesTable3};
 ghost use Rattle.idriss_theory.specs.Rows.{rowAt, parts, RowLimits};
 ghost use Rattle.idriss_theory.specs.Periods.{listedAt};
 use idriss_theory::Row;
@@ -192,4 +192,11 @@ pub fn period_logarithm(k: usize) -> Ends
             high: 2_302_585_094,
         },
     }
+}
+
+// Whether the magnitude takes Table 3, and not Table 2.
+pub fn takes_table_3(magnitude: u16) -> bool
+    ensures { λ r. ⌜ r ≡ takesTable3 magnitude ⌝ }
+{
+    675 < magnitude
 }

@@ -1,7 +1,7 @@
 // Steps with intervals in whole units of 10^-9, rounded outward: with pairs of ends that are not below zero, and with
 // signed pairs.
 ghost use mathlib.Core.Path.{_≡_};
-ghost use Prim.Native.Nat.{_^_, _<_, min, max};
+ghost use Prim.Native.Nat.{_^_, _<_};
 ghost use Rattle.interval_theory.specs.Natural.{MultipleDomain, ProductDomain, QuotientDomain, SumDomain, multipleOf};
 ghost use Rattle.interval_theory.specs.Natural.{productOf, quotientOf, sumOf, hullOf};
 ghost use Rattle.interval_theory.specs.Signed.{Moderate, TimesDomain, SmallerThan, plusOf, minusOf, timesOf, betweenOf};
@@ -9,6 +9,8 @@ ghost use Rattle.interval_theory.specs.Signed.{endsOf, lesser, greater, signedH
 use interval_theory::Ends;
 use interval_theory::SignedEnds;
 use interval_theory::SignedPair;
+use order::max;
+use order::min;
 use signed::difference;
 
 // c/20,000,000 of what lies between e's ends.
@@ -53,26 +55,6 @@ pub fn sum(a: Ends, b: Ends) -> Ends
         low: a.low + b.low,
         high: a.high + b.high,
     }
-}
-
-// The lesser of two.
-pub fn min(a: u64, b: u64) -> u64
-    ensures { λ r. ⌜ r ≡ min a b ⌝ }
-{
-    if b < a {
-        return b;
-    }
-    a
-}
-
-// The greater of two.
-pub fn max(a: u64, b: u64) -> u64
-    ensures { λ r. ⌜ r ≡ max a b ⌝ }
-{
-    if a < b {
-        return b;
-    }
-    a
 }
 
 // From the lesser low end to the greater high end.

@@ -163,7 +163,7 @@ fn taken(
 pub extern "C" fn probe_takes_table_3(magnitude: u16) -> bool
     ensures { λ r. ⌜ r ≡ takesTable3 magnitude ⌝ }
 {
-    idriss::takes_table_3(magnitude)
+    idriss_tables::takes_table_3(magnitude)
 }
 
 // The median of Idriss by row k of a table, 3 or any other number for Table 2.
@@ -197,8 +197,8 @@ fn idriss_sigma(p: Place, period: u16, magnitude: u16) -> SignedEnds
     ensures { λ r. ⌜ (r ≡ sigmaOf period magnitude) × SmallerThan (2 ^ 53) r ⌝ }
 {
     match p {
-        Place::Row(k) => idriss::sigma(k, period, magnitude),
-        Place::Between(_) => idriss::sigma_between(period, magnitude),
+        Place::Row(k) => idriss_sigma::sigma(k, period, magnitude),
+        Place::Between(_) => idriss_sigma::sigma_between(period, magnitude),
     }
 }
 
@@ -236,7 +236,7 @@ pub extern "C" fn probe_boore_atkinson_sigma(k: usize, mechanism: u8) -> ProbedE
     ensures { λ r. ⌜ r ≡ probedBooreAtkinsonSigma k mechanism ⌝ }
 {
     if taken(k, 2, 700, 0, 7_600, mechanism, 0) {
-        return tell(boore_atkinson::sigma(k, mechanism));
+        return tell(boore_atkinson_sigma::sigma(k, mechanism));
     }
     none()
 }

@@ -1,4 +1,4 @@
-// The line of an answer, the last line and the digits of a number, as bytes.
+// The line of an answer and the last line, as bytes.
 ghost use mathlib.Core.Path.{_≡_};
 ghost use Prim.Native.Nat.{_+_, _≤_};
 ghost use lib.ListN.{length};
@@ -8,21 +8,13 @@ ghost use Rattle.engine_theory.specs.declared.Answer.the-variants.{Enclosed, Re
 ghost use Rattle.report_theory.specs.Text.{decimal};
 ghost use Rattle.report_theory.specs.Lines.{lineOf, endBytes, lastLineOf, lengthOn, bytesAfter};
 ghost use Rattle.report_theory.specs.Steps.{Counted, wordOf, wordsFor, signBytes, wordBytes, bothBytes, headBytes};
+use decimal::decimal_length;
+use decimal::put_decimal;
 use engine_theory::Answer;
 use engine_theory::Enclosure;
 use interval_theory::SignedEnds;
 use report_theory::Word;
 use report_theory::Words;
-
-// How many decimal digits n has.
-fn decimal_length(n: u64) -> usize
-    ensures { λ r. ⌜ Counted (decimal n) 20 r ⌝ }
-{
-    if n < 10 {
-        return 1;
-    }
-    decimal_length(n / 10) + 1
-}
 
 fn split(z: i64) -> Word
     ensures { λ r. ⌜ r ≡ wordOf z ⌝ }
@@ -57,20 +49,6 @@ fn words_length(w: Words) -> usize
     ensures { λ r. ⌜ Counted (bothBytes w) 44 r ⌝ }
 {
     word_length(w.low) + word_length(w.high)
-}
-
-// Puts n at a place, and answers the place after it.
-fn put_decimal(out: &mut [u8], at: usize, n: u64) -> usize
-    requires { ⌜ at + length (decimal n) ≤ length (now out) ⌝ }
-    ensures { λ r. ⌜ Put at (decimal n) (now (out .entry)) r (now (out .exit)) ⌝ }
-{
-    if n < 10 {
-        out[at] = 48 + n as u8;
-        return at + 1;
-    }
-    let next = put_decimal(out, at, n / 10);
-    out[next] = 48 + (n % 10) as u8;
-    next + 1
 }
 
 // Puts a space and, below zero, the sign.
@@ -185,18 +163,4 @@ pub fn last_line(count: u64, out: &mut [u8]) -> usize
     put_word_end(out);
     put_decimal(out, 4, count);
     n
-}
-
-// Puts the digits of n at the front of out, and answers how many they are; where they do not fit, that is 0 and out is
-// not touched.
-pub fn number(n: u64, out: &mut [u8]) -> usize
-    ensures { λ r. ⌜ r ≡ lengthOn (decimal n) (now (out .entry)) ⌝ }
-    ensures { λ _. ⌜ now (out .exit) ≡ bytesAfter (decimal n) (now (out .entry)) ⌝ }
-{
-    let k = decimal_length(n);
-    if out.len() < k {
-        return 0;
-    }
-    put_decimal(out, 0, n);
-    k
 }

@@ -1,7 +1,0 @@
--- `min` meets its contract.
-use native.Mathlib.Omega.{arith}
-use Rattle.interval.proofs.min.Statement.{statement}
-use Rattle.interval.proofs.min.Tie as tie
-
-pub min-spec : {M : Type 1} → statement M
-min-spec = tie.close (tie.spec (λ c. omega arith) (λ c. omega arith))
