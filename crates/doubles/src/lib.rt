@@ -6,6 +6,7 @@ ghost use Rattle.engine_theory.specs.Evaluation.{SmallEnclosure, doubleOf, doub
 use engine_theory::Doubles;
 use engine_theory::Enclosure;
 
+// A whole number that a double holds.
 fn double(z: i64) -> f64
     requires { ⌜ natAbs z < 2 ^ 53 ⌝ }
     ensures { λ r. ⌜ r ≡ doubleOf z ⌝ }
@@ -13,6 +14,7 @@ fn double(z: i64) -> f64
     z as f64
 }
 
+// The four ends of an answer, each as a double.
 pub fn as_doubles(e: Enclosure) -> Doubles
     requires { ⌜ SmallEnclosure e ⌝ }
     ensures { λ r. ⌜ r ≡ doublesOf e ⌝ }
