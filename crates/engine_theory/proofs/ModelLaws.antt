@@ -49,7 +49,7 @@ use Rattle.engine_theory.specs.Promise.{EnclosedWithin}
 use Rattle.engine_theory.specs.Ranges.{medianLeast, medianMost, InRange}
 use Rattle.engine_theory.specs.Evaluation.{atPeriodOf, idrissMedianEnds, booreAtkinsonMedianEnds}
 use Rattle.engine_theory.specs.Evaluation.{booreAtkinsonSigmaEnds, enclosureOf, SmallEnclosure}
-use Rattle.engine_theory.proofs.RowLaws.{in-idriss, in-boore-atkinson}
+use Rattle.engine_theory.proofs.RowLaws.{idriss-tabled, boore-atkinson-tabled, around, not-first}
 
 -- two ends enclose f, at most w units apart, and a double equals each
 pub record Ends (w : ℕ) (f : Formula) (e : SignedEnds) : Type 0 where
@@ -113,7 +113,7 @@ module _ (s : Scenario) where
         let own = ends-of _ idrissPromise.medianWidth idrissWidth (omega arith) (m .encloses) (m .narrow) (m .small) in
         median-ends own (omega arith) (omega arith) r)
         (λ e.
-        let b = in-idriss T e (w .period) in
+        let b = around idriss-tabled T e (w .period) in
         let d = idriss-median-domain s (b .last) w in
         let m =
         rw (
@@ -145,11 +145,11 @@ module _ (s : Scenario) where
         let own = ends-of _ width booreAtkinsonWidth (omega arith) (m .encloses) (m .narrow) (m .small) in
         median-ends own (omega arith) (omega arith) r)
         (λ e.
-        let b = in-boore-atkinson T e (w .period) in
+        let b = around boore-atkinson-tabled T e (w .period) in
         let d = boore-atkinson-median-domain s (b .last) w in
         let m =
         rw (← b .rows .next, ← row-at (neighbourBelow booreAtkinson T), ← row-at (neighbourAbove booreAtkinson T)) at
-        (medianBetweenOf-promise (s .mechanism) (b .first) d (b .step)) in
+        (medianBetweenOf-promise (s .mechanism) (not-first (b .rows)) d (b .step)) in
         median-ends (between-ends (2 * booreAtkinsonWidth) (omega arith) m) (omega arith) (omega arith) (m .reaches))
 
     boore-atkinson-sigma : Ends (cond (hasRow booreAtkinson T) 0 sigmaBetweenWidth) (booreAtkinsonSigmaBy s)
@@ -160,12 +160,12 @@ module _ (s : Scenario) where
         let g = rw (← total-at T) at (boore-atkinson-sigma-promise _ (s .mechanism) (boore-atkinson-row T e)) in
         ends-of _ 0 0 (omega arith) (g .encloses) (no-units _ (g .equal)) (g .small))
         (λ e.
-        let b = in-boore-atkinson T e (w .period) in
+        let b = around boore-atkinson-tabled T e (w .period) in
         let T1 = neighbourBelow booreAtkinson T in
         let T2 = neighbourAbove booreAtkinson T in
         let g =
         rw (← b .rows .next, ← total-at T1, ← total-at T2) at
-        (sigmaBetweenOf-promise (s .mechanism) (b .first) (b .last) (b .step)) in
+        (sigmaBetweenOf-promise (s .mechanism) (not-first (b .rows)) (b .last) (b .step)) in
         between-ends sigmaBetweenWidth (omega arith) g)
 
 -- ---- the four ends of an accepted scenario

@@ -7,7 +7,7 @@ ghost use Rattle.engine_theory.specs.Evaluation.{answerOf, recordAnswerOf, inDo
 ghost use Rattle.engine_theory.specs.Flat.{told};
 ghost use Rattle.host_theory.specs.Told.{scenarioFrom, toldPeriods, toldDoubles, toldReading, toldWriting};
 ghost use Rattle.host_theory.specs.Promise.{HostAnswerPromise, HostDoublesPromise, HostReadingPromise};
-ghost use Rattle.host_theory.specs.Promise.{HostWritingPromise, HostRowsPromise};
+ghost use Rattle.host_theory.specs.Promise.{HostWritingPromise, rowsRefusal, HostRowsPromise};
 use engine_theory::DoublesAnswer;
 use engine_theory::FlatAnswer;
 use host_theory::HostDoubles;
@@ -67,7 +67,7 @@ pub extern "C" fn fusnoch_refusal(s: HostScenario) -> u8
 #[no_mangle]
 pub extern "C" fn fusnoch_rows(model: u8, period: u16) -> HostPeriods
     ensures { λ r. ⌜ r ≡ toldPeriods (rowPeriodsOf model period) ⌝ }
-    ensures { λ r. ⌜ HostRowsPromise model period r ⌝ }
+    ensures { λ r. ⌜ HostRowsPromise (rowsRefusal model period) period r ⌝ }
 {
     match scenario::row_periods(model, period) {
         RowPeriods::Rows(lower, upper) => HostPeriods {

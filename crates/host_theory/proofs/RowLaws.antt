@@ -15,69 +15,52 @@ use Rattle.scenario_theory.specs.Rows.{idrissRow, booreAtkinsonRow, BetweenRows
 use Rattle.scenario_theory.proofs.RowLaws.{idriss-between, boore-atkinson-between}
 use Rattle.host_theory.specs.declared.HostPeriods.{HostPeriods}
 use Rattle.host_theory.specs.Told.{toldPeriods}
-use Rattle.host_theory.specs.Promise.{HostRowsPromise}
+use Rattle.host_theory.specs.Promise.{rowsRefusal, HostRowsPromise}
 
--- the periods in r are those around T, where k is the number of the refusal
-record Around (T k : ℕ) (r : HostPeriods) : Type 0 where
-  number : r .number ≡ k
-  below : r .number ≡ 0 → 1 ≤ T → r .lower ≤ T
-  above : r .number ≡ 0 → 1 ≤ T → T ≤ r .upper
-  zeros : (r .number ≡ 0 → ⊥) → (r .lower ≡ 0) × (r .upper ≡ 0)
-
--- by any model
-module _ (m : Limits) (row printed : ℕ → ℕ) (T : ℕ) (same : 1 ≤ T → printed T ≡ T)
-    (between : hasRow m T ≡ false → beyondPeriods T ≡ false → BetweenRows m row T) where
-  by-tabled : (b : Bool) → hasRow m T ≡ b → beyondPeriods T ≡ false →
-      Around T 0
-      (toldPeriods (cond b (P.Rows (printed T) (printed T)) (P.Rows (neighbourBelow m T) (neighbourAbove m T))))
-  by-tabled true e ok = record {
-    number = refl;
-    below = λ _ h. omega (arith, same h);
-    above = λ _ h. omega (arith, same h);
-    zeros = λ h. absurd (h refl);
-  }
-  by-tabled false e ok =
-      let b = between e ok in
-      record {
-        number = refl;
-        below = λ _ _. omega (arith, b .above);
-        above = λ _ _. omega (arith, b .below);
-        zeros = λ h. absurd (h refl);
-      }
-
-  by-outside : (b : Bool) → beyondPeriods T ≡ b → Around T (6 when b) (toldPeriods (cond b (P.Refused 6)
-      (cond (hasRow m T) (P.Rows (printed T) (printed T)) (P.Rows (neighbourBelow m T) (neighbourAbove m T)))))
-  by-outside true e = record {
-    number = refl;
-    below = λ h _. absurd (omega (arith, h));
-    above = λ h _. absurd (omega (arith, h));
-    zeros = λ _. (refl, refl);
-  }
-  by-outside false e = by-tabled (hasRow m T) refl e
-
-  around : Around T (6 when beyondPeriods T) (toldPeriods (rowPeriodsBy m printed T))
-  unfolding rowPeriodsBy
-  around = by-outside (beyondPeriods T) refl
-
--- by the model of this number
-by-model : (first second : Bool) (T : ℕ) →
-    Around T (1 when not (first || second) otherwise 6 when beyondPeriods T)
-    (toldPeriods (cond first (rowPeriodsBy idriss idrissPrinted T)
-    (cond second (rowPeriodsBy booreAtkinson (λ t. t) T) (P.Refused 1))))
-by-model true second T =
-    around idriss idrissRow idrissPrinted T (λ h. rw (ne-eqb T 0 (λ e. omega arith)) refl) (idriss-between T)
-by-model false true T = around booreAtkinson booreAtkinsonRow (λ t. t) T (λ _. refl) (boore-atkinson-between T)
-by-model false false T = record {
+refused : (k T : ℕ) → 1 ≤ k → HostRowsPromise k T (toldPeriods (P.Refused k))
+refused k T some = record {
   number = refl;
   below = λ h _. absurd (omega (arith, h));
   above = λ h _. absurd (omega (arith, h));
   zeros = λ _. (refl, refl);
 }
 
+told : (T lower upper : ℕ) → (1 ≤ T → lower ≤ T) → (1 ≤ T → T ≤ upper) →
+    HostRowsPromise 0 T (toldPeriods (P.Rows lower upper))
+told T lower upper below above =
+    record { number = refl; below = λ _. below; above = λ _. above; zeros = λ h. absurd (h refl) }
+
+-- by any model
+module _ (m : Limits) (row printed : ℕ → ℕ) (T : ℕ) (same : 1 ≤ T → printed T ≡ T)
+    (between : hasRow m T ≡ false → beyondPeriods T ≡ false → BetweenRows m row T) where
+  by-tabled : (b : Bool) → hasRow m T ≡ b → beyondPeriods T ≡ false →
+      HostRowsPromise 0 T
+      (toldPeriods (cond b (P.Rows (printed T) (printed T)) (P.Rows (neighbourBelow m T) (neighbourAbove m T))))
+  by-tabled true e ok = told T _ _ (λ h. omega (arith, same h)) (λ h. omega (arith, same h))
+  by-tabled false e ok =
+      let b = between e ok in told T _ _ (λ _. omega (arith, b .above)) (λ _. omega (arith, b .below))
+
+  by-outside : (b : Bool) → beyondPeriods T ≡ b → HostRowsPromise (6 when b) T (toldPeriods (cond b (P.Refused 6)
+      (cond (hasRow m T) (P.Rows (printed T) (printed T)) (P.Rows (neighbourBelow m T) (neighbourAbove m T)))))
+  by-outside true e = refused 6 T (omega arith)
+  by-outside false e = by-tabled (hasRow m T) refl e
+
+  promised : HostRowsPromise (6 when beyondPeriods T) T (toldPeriods (rowPeriodsBy m printed T))
+  unfolding rowPeriodsBy
+  promised = by-outside (beyondPeriods T) refl
+
+-- by the model of this number
+by-model : (first second : Bool) (T : ℕ) →
+    HostRowsPromise (1 when not (first || second) otherwise 6 when beyondPeriods T) T
+    (toldPeriods (cond first (rowPeriodsBy idriss idrissPrinted T)
+    (cond second (rowPeriodsBy booreAtkinson (λ t. t) T) (P.Refused 1))))
+by-model true second T =
+    promised idriss idrissRow idrissPrinted T (λ h. rw (ne-eqb T 0 (λ e. omega arith)) refl) (idriss-between T)
+by-model false true T = promised booreAtkinson booreAtkinsonRow (λ t. t) T (λ _. refl) (boore-atkinson-between T)
+by-model false false T = refused 1 T (omega arith)
+
 -- every struct of which the contract says `r ≡ ..` keeps the promise
 pub rows-told : {r : HostPeriods} (model T : ℕ) → r ≡ toldPeriods (rowPeriodsOf model T) →
-    (r ≡ toldPeriods (rowPeriodsOf model T)) × HostRowsPromise model T r
+    (r ≡ toldPeriods (rowPeriodsOf model T)) × HostRowsPromise (rowsRefusal model T) T r
 unfolding rowPeriodsOf
-rows-told model T e =
-    let a = by-model (eqb model 1) (eqb model 2) T in
-    (e, rw e (record { number = a .number; below = a .below; above = a .above; zeros = a .zeros }))
+rows-told model T e = (e, rw e (by-model (eqb model 1) (eqb model 2) T))

@@ -48,10 +48,14 @@ pub record HostWritingPromise (x : Scenario) (lent : List ℕ) (r : HostWriting)
   pub written : writeRefusal x lent ≡ 0 → r .length ≡ length (recordOf x)
   pub zero : (writeRefusal x lent ≡ 0 → ⊥) → r .length ≡ 0
 
--- the rows of a model at T (W-201): the number is 1 or 6 as of a scenario, and T lies from the one period to the other,
--- but that 0 is peak acceleration; with a refusal they are zeros. Which rows they are, `rowPeriodsOf` says
-pub record HostRowsPromise (model T : ℕ) (r : HostPeriods) : Type 0 where
-  pub number : r .number ≡ (1 when not (eqb model 1 || eqb model 2) otherwise 6 when beyondPeriods T)
+-- the first of the checks 1 and 6 that a model and a period fail, 0 where they fail neither
+abbrev pub rowsRefusal : ℕ → ℕ → ℕ
+rowsRefusal model T = 1 when not (eqb model 1 || eqb model 2) otherwise 6 when beyondPeriods T
+
+-- the rows at T (W-201): T lies from the one period to the other, but that 0 is peak acceleration; with a refusal they
+-- are zeros. Which rows they are, `rowPeriodsOf` says
+pub record HostRowsPromise (k T : ℕ) (r : HostPeriods) : Type 0 where
+  pub number : r .number ≡ k
   pub below : r .number ≡ 0 → 1 ≤ T → r .lower ≤ T
   pub above : r .number ≡ 0 → 1 ≤ T → T ≤ r .upper
   pub zeros : (r .number ≡ 0 → ⊥) → (r .lower ≡ 0) × (r .upper ≡ 0)

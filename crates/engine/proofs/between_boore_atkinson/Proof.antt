@@ -1,28 +1,31 @@
 -- `between_boore_atkinson` meets its contract.
 use mathlib.Core.Path.{_≡_, refl, sym, _∙_}
+use mathlib.Core.List.{_∷_}
 use native.Mathlib.Omega.{arith}
 use borrow.Author.Needs.{needs}
 use Rattle.interpolation_theory.specs.Steps.{stepOf}
 use Rattle.scenario_theory.specs.Refusal.{booreAtkinson}
 use Rattle.scenario_theory.specs.Neighbours.{neighbourBelow, neighbourAbove}
-use Rattle.engine_theory.proofs.RowLaws.{BooreAtkinsonTaken, boore-atkinson-taken}
+use Rattle.scenario_theory.specs.Rows.{booreAtkinsonRow}
+use Rattle.engine_theory.proofs.RowLaws.{boore-atkinson-tabled, TakenAround, taken-around}
 use Rattle.engine_theory.proofs.Assembled.{boore-atkinson-interpolates, boore-atkinson-between-rows}
 use Rattle.engine.proofs.between_boore_atkinson.Statement.{statement}
 use Rattle.engine.proofs.between_boore_atkinson.Tie as tie
 
-taken : (c : tie.Start) → BooreAtkinsonTaken (c .args .s) (c .args .k)
-taken c = boore-atkinson-taken (c .pre .0)
+taken : (c : tie.Start) →
+    TakenAround booreAtkinson booreAtkinsonRow (0 ∷ booreAtkinson .periods) (c .args .s) (c .args .k)
+taken c = taken-around boore-atkinson-tabled (c .pre .0)
 
 lower : (c : tie.After-boore-atkinson-period) →
     c .boore-atkinson-period .result ≡ neighbourBelow booreAtkinson (c .before .args .s .period)
 lower c =
-    let t = taken (c .before) in c .boore-atkinson-period .ensures ∙ rw (t .row) (sym (t .between .step .lower))
+    let t = taken (c .before) in c .boore-atkinson-period .ensures ∙ rw (t .row-is) (sym (t .around .step .lower))
 
 upper : (c : tie.After-boore-atkinson-period2) →
     c .boore-atkinson-period2 .result ≡ neighbourAbove booreAtkinson (c .before .before .args .s .period)
 upper c =
     let t = taken (c .before .before) in
-    c .boore-atkinson-period2 .ensures ∙ rw (t .row) (sym (t .between .step .upper))
+    c .boore-atkinson-period2 .ensures ∙ rw (t .row-is) (sym (t .around .step .upper))
 
 step-is : (c : tie.After-step) →
     let T = c .before .before .before .args .s .period in
@@ -33,11 +36,11 @@ pub between-boore-atkinson-spec : {M : Type 1} → statement M
 between-boore-atkinson-spec =
     tie.close
     (tie.spec
-    (λ c κs. let t = taken c in rw (t .row) (omega (arith, t .between .last)))
-    (λ c. let t = taken (c .before) in rw (t .row) (omega (arith, t .between .last)))
-    (λ c κs. let t = taken (c .before) in rw (t .row) (t .between .last))
-    (λ c κs. rw (lower (c .before), upper c) (taken (c .before .before) .between .domains))
-    (λ c κs. let t = taken (c .before .before .before) in rw (t .row) (t .between .last))
+    (λ c κs. let t = taken c in rw (t .row-is) (omega (arith, t .around .last)))
+    (λ c. let t = taken (c .before) in rw (t .row-is) (omega (arith, t .around .last)))
+    (λ c κs. let t = taken (c .before) in rw (t .row-is) (t .around .last))
+    (λ c κs. rw (lower (c .before), upper c) (taken (c .before .before) .around .domains))
+    (λ c κs. let t = taken (c .before .before .before) in rw (t .row-is) (t .around .last))
     (λ c κs.
     let p = c .before .before .before .before .pre in
     rw (step-is (c .before), p .1) (boore-atkinson-interpolates (p .0) .median))

@@ -4,7 +4,7 @@ use borrow.Author.Needs.{needs}
 use Rattle.scenario_theory.proofs.RefusalLaws.{within-boore-atkinson}
 use Rattle.boore_atkinson_theory.proofs.Accepted.{median-domain}
 use Rattle.engine_theory.specs.Steps.{firstIn, lastIn, booreAtkinsonRowsOf}
-use Rattle.engine_theory.proofs.RowLaws.{boore-atkinson-last, first-last}
+use Rattle.engine_theory.proofs.RowLaws.{boore-atkinson-tabled, last-taken, first-last}
 use Rattle.engine.proofs.by_boore_atkinson.Statement.{statement}
 use Rattle.engine.proofs.by_boore_atkinson.Tie as tie
 
@@ -17,12 +17,12 @@ pub by-boore-atkinson-spec : {M : Type 1} → statement M
 by-boore-atkinson-spec =
     tie.close
     (tie.spec
-    (λ c κs. search needs) (λ c κs. boore-atkinson-last _ (c .before .pre))
+    (λ c κs. search needs) (λ c κs. last-taken boore-atkinson-tabled _ (c .before .pre))
     (λ c κs.
     let k = c .before .before in
     let w = within-boore-atkinson _ (k .pre .model) (k .pre .accepted) in
     rw (c .last-row .ensures, c .before .first-row .ensures)
-    (median-domain _ (boore-atkinson-last _ (k .pre)) w, first-last (k .args .place)))
+    (median-domain _ (last-taken boore-atkinson-tabled _ (k .pre)) w, first-last (k .args .place)))
     (λ c. search needs)
     (λ c κs.
     let m = c .before .before .before in

@@ -4,7 +4,7 @@ use borrow.Author.Needs.{needs}
 use Rattle.scenario_theory.proofs.RefusalLaws.{within-idriss}
 use Rattle.idriss_theory.proofs.Accepted.{median-domain}
 use Rattle.engine_theory.specs.Steps.{firstIn, lastIn, idrissRowsOf}
-use Rattle.engine_theory.proofs.RowLaws.{idriss-last, first-last}
+use Rattle.engine_theory.proofs.RowLaws.{idriss-tabled, last-taken, first-last}
 use Rattle.engine.proofs.by_idriss.Statement.{statement}
 use Rattle.engine.proofs.by_idriss.Tie as tie
 
@@ -20,12 +20,12 @@ pub by-idriss-spec : {M : Type 1} → statement M
 by-idriss-spec =
     tie.close
     (tie.spec
-    (λ c κs. search needs) (λ c κs. search needs) (λ c κs. idriss-last _ (c .before .before .pre))
+    (λ c κs. search needs) (λ c κs. search needs) (λ c κs. last-taken idriss-tabled _ (c .before .before .pre))
     (λ c κs.
     let k = c .before .before .before in
     let w = within-idriss _ (k .pre .model) (k .pre .accepted) in
     rw (c .last-row .ensures, c .before .first-row .ensures)
-    (median-domain _ (idriss-last _ (k .pre)) w, first-last (k .args .place)))
+    (median-domain _ (last-taken idriss-tabled _ (k .pre)) w, first-last (k .args .place)))
     (λ c. search needs)
     (λ c κs.
     let m = c .before .before .before in
