@@ -310,7 +310,7 @@ def at_thresholds(rng):
 # The other questions
 # ---------------------------------------------------------------------------
 
-def untabled():
+def idriss_between():
     """Return periods without a row of Idriss: beside each row, and in the middle between any two."""
     pairs = [*zip(IDRISS_PERIODS, IDRISS_PERIODS[1:])]
     return sorted({period for lower, upper in pairs for period in (lower + 1, (lower + upper) // 2, upper - 1)})
@@ -320,7 +320,7 @@ def sigmas():
     """Return the questions for sigma: every row, periods between, and the magnitudes and codes around the limits."""
     questions = []
     # Among them are 49, 50, 51, 2999, 3000 and 3001: "T in seconds held to 0.05 to 3".
-    for period in (0, *IDRISS_PERIODS, *untabled(), 70, 1, 9, 10001, 32768 + 70, FIELD_END):
+    for period in (0, *IDRISS_PERIODS, *idriss_between(), 70, 1, 9, 10001, 32768 + 70, FIELD_END):
         for magnitude in (0, 449, 450, 451, 499, 500, 501, 675, 676, 749, 750, 751, 789, 790, 791, FIELD_END):
             questions.append(Question('idriss_sigma', (period, magnitude)))
     for row in (*range(ROWS), 22, 23, 44, 255):
@@ -406,7 +406,7 @@ def by_formula(rng):
         questions.append(Question('nonlinear', (row, rng.randint(1800, 7600), p, p + rng.randint(0, 10)), True))
         questions.append(Question('boore_atkinson_sigma', (row, rng.choice(BOORE_ATKINSON.mechanism)), True))
         questions.append(Question('idriss_sigma', (IDRISS_PERIODS[row], any_magnitude(rng, IDRISS)), True))
-    for period in untabled():
+    for period in idriss_between():
         questions.append(Question('idriss_sigma', (period, any_magnitude(rng, IDRISS)), True))
     return questions
 

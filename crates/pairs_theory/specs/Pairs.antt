@@ -12,8 +12,8 @@ use Rattle.engine_theory.specs.Models.{median, sigma}
 use Rattle.values_theory.specs.Table.{Check, cutAt, neg}
 
 -- Idriss's median, by Table 3, and its sigma, for whole scenarios; Boore-Atkinson's sigma between the rows 0.03 and
--- 0.05 s (W-201); its slope, and its nonlinear part for
--- stated p below ln 0.03, between it and ln 0.09, above that, and next to ln 0.03, where the pair reaches two branches
+-- 0.05 s (W-201); its slope, and its nonlinear part for stated p below ln 0.03, between it and ln 0.09, above that, and
+-- next to ln 0.03, where the pair reaches two branches
 abbrev pub pairs : List Check
 pairs =
     cutAt 1 (median (scenarioOf (map some (1 ∷ 676 ∷ 100 ∷ 4_500 ∷ 2 ∷ 75 ∷ []))))

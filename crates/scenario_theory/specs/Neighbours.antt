@@ -10,7 +10,7 @@ use Rattle.scenario_theory.specs.declared.RowPeriods.{RowPeriods}
 use Rattle.scenario_theory.specs.declared.RowPeriods.the-variants as R
 use Rattle.scenario_theory.specs.Refusal.{Limits, idriss, booreAtkinson, beyondPeriods}
 
--- 0, and "Tabled periods", have a row of their own
+-- 0 and "Tabled periods" have a row
 abbrev pub hasRow : Limits → ℕ → Bool
 hasRow m T = among (0 ∷ m .periods) T
 

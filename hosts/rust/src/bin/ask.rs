@@ -1,5 +1,5 @@
-//! Answers lines of standard input through the safe wrapper, one line each, for the tests: see hosts/c/ask.c. For `null`
-//! it takes an empty slice of nothing, and the empty part at the end of some bytes.
+//! Answers lines of standard input through the safe wrapper, one line each, for the tests: see hosts/c/ask.c. For
+//! `null` it takes an empty slice of nothing, and the empty part at the end of some bytes.
 
 use std::fmt::Display;
 use std::io::{self, BufRead, Write};
