@@ -21,8 +21,8 @@ use interpolation::interpolated;
 use interpolation_theory::TwoRows;
 use interval::ends;
 use record_theory::PlacedReading;
-use scenario_rows::boore_atkinson_period;
-use scenario_rows::idriss_period;
+use row_steps::boore_atkinson_neighbours;
+use row_steps::idriss_neighbours;
 use scenario_theory::Check;
 use scenario_theory::Place;
 use scenario_theory::Scenario;
@@ -52,7 +52,7 @@ fn between_idriss(s: Scenario, k: usize, rows: TwoRows) -> Enclosure
     requires { ⌜ TakenBy 1 idriss idrissRow s (P.Between k) × (rows ≡ idrissRowsOf s k (k + 1)) ⌝ }
     ensures { λ r. ⌜ r ≡ enclosureOf s ⌝ }
 {
-    let step = interpolation::step(idriss_period(k), s.period, idriss_period(k + 1));
+    let step = interpolation::step(idriss_neighbours(k), s.period);
     Enclosure {
         median: interpolated(rows.lower, rows.upper, step.part, step.whole),
         sigma: idriss_sigma::sigma_between(s.period, s.magnitude),
@@ -95,11 +95,7 @@ fn between_boore_atkinson(s: Scenario, k: usize, rows: TwoRows) -> Enclosure
     requires { ⌜ rows ≡ booreAtkinsonRowsOf s k (k + 1) ⌝ }
     ensures { λ r. ⌜ r ≡ enclosureOf s ⌝ }
 {
-    let step = interpolation::step(
-        boore_atkinson_period(k),
-        s.period,
-        boore_atkinson_period(k + 1),
-    );
+    let step = interpolation::step(boore_atkinson_neighbours(k), s.period);
     let sigmas = boore_atkinson_sigma::sigma_rows(k, s.mechanism);
     Enclosure {
         median: interpolated(rows.lower, rows.upper, step.part, step.whole),

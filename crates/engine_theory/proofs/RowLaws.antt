@@ -67,7 +67,7 @@ pub record Around (m : Limits) (row : ℕ → ℕ) (list : List ℕ) (T : ℕ) :
   pub rows : BetweenRows m row T
   pub step : StepAt list (row (neighbourBelow m T)) (stepOf T (neighbourBelow m T) (neighbourAbove m T))
   pub last : row (neighbourBelow m T) + 1 < rowCount
-  pub domains : LnDomain T (neighbourBelow m T) × LnDomain (neighbourAbove m T) (neighbourBelow m T)
+  pub domain : LnDomain T (neighbourBelow m T)
 
 -- of a scenario that is taken at such a period
 pub record TakenAround (m : Limits) (row : ℕ → ℕ) (list : List ℕ) (s : Scenario) (k : ℕ) : Type 0 where
@@ -103,7 +103,7 @@ module _ {n : ℕ} {m : Limits} {row : ℕ → ℕ} {list : List ℕ} (tabled : 
           below = b .below;
         };
         last = rw (← b .next) (tabled .few _ (or-right (eqb (neighbourAbove m T) 0) (b .second)));
-        domains = (omega (arith, low, high, b .above, b .below), omega (arith, low, high, b .above, b .below));
+        domain = omega (arith, low, high, b .above, b .below);
       }
 
   module _ {s : Scenario} where

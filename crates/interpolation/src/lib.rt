@@ -2,9 +2,11 @@
 ghost use mathlib.Core.Path.{_≡_};
 ghost use Prim.Native.Nat.{_^_, _≤_};
 ghost use Rattle.logarithm_theory.specs.Promise.{LnDomain};
-ghost use Rattle.interpolation_theory.specs.Steps.{stepOf};
+ghost use Rattle.logarithm_theory.specs.Evaluation.{lnOf};
+ghost use Rattle.interpolation_theory.specs.Steps.{neighboursOf, stepOf};
 ghost use Rattle.interpolation_theory.specs.Evaluation.{partDown, partUp, PartDomain};
 ghost use Rattle.interpolation_theory.specs.Evaluation.{interpolatedOf, InterpolationDomain, noPair};
+use interpolation_theory::Neighbours;
 use interpolation_theory::Step;
 use interval::between;
 use interval_theory::Ends;
@@ -54,17 +56,30 @@ pub fn interpolated(a: SignedPair, b: SignedPair, t: Ends, u: Ends) -> SignedEnd
     )
 }
 
-// The step from a row to the next, by the periods T1, T and T2: ln(T/T1) and ln(T2/T1).
-pub fn step(lower: u16, period: u16, upper: u16) -> Step
-    requires { ⌜ LnDomain period lower × LnDomain upper lower ⌝ }
-    ensures { λ r. ⌜ r ≡ stepOf period lower upper ⌝ }
+// Two neighbouring rows by their periods, T1 and T2. Where both are known, the compiler works the logarithm out.
+pub fn neighbours(lower: u16, upper: u16) -> Neighbours
+    requires { ⌜ LnDomain upper lower ⌝ }
+    ensures { λ r. ⌜ r ≡ neighboursOf lower upper ⌝ }
 {
-    Step {
-        period,
+    Neighbours {
         lower,
         upper,
-        part: logarithm::ln(period as u64, lower as u64),
         whole: logarithm::ln(upper as u64, lower as u64),
+    }
+}
+
+// The step from one row to the next, with a period T between them: ln(T/T1) and ln(T2/T1).
+pub fn step(rows: Neighbours, period: u16) -> Step
+    requires { ⌜ LnDomain period (rows .lower) × (rows .whole ≡ lnOf (rows .upper) (rows .lower)) ⌝ }
+    ensures { λ r. ⌜ r ≡ stepOf period (rows .lower) (rows .upper) ⌝ }
+{
+    let whole = rows.whole;
+    Step {
+        period,
+        lower: rows.lower,
+        upper: rows.upper,
+        part: logarithm::ln(period as u64, rows.lower as u64),
+        whole,
     }
 }
 

@@ -4,7 +4,11 @@ use mathlib.Core.List.{List}
 use Prim.Native.Nat.{ℕ, _+_, _^_, _≤_, _<_}
 use lib.ListN.{getD}
 use Rattle.logarithm_theory.specs.Evaluation.{lnOf}
+use Rattle.interpolation_theory.specs.declared.Neighbours.{Neighbours}
 use Rattle.interpolation_theory.specs.declared.Step.{Step}
+
+abbrev pub neighboursOf : ℕ → ℕ → Neighbours
+neighboursOf T1 T2 = record { lower = T1; upper = T2; whole = lnOf T2 T1 }
 
 abbrev pub stepOf : ℕ → ℕ → ℕ → Step
 stepOf T T1 T2 = record { period = T; lower = T1; upper = T2; part = lnOf T T1; whole = lnOf T2 T1 }

@@ -3,6 +3,13 @@
 use interval_theory::Ends;
 use interval_theory::SignedPair;
 
+// The periods of two neighbouring rows, in thousandths of a second, and ln(T2/T1).
+pub struct Neighbours {
+    pub lower: u16,
+    pub upper: u16,
+    pub whole: Ends,
+}
+
 // A period between those of two rows, in thousandths of a second, with ln(T/T1) and ln(T2/T1).
 pub struct Step {
     pub period: u16,

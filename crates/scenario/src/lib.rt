@@ -87,13 +87,11 @@ pub fn check(
 ) -> Check
     ensures { λ r. ⌜ r ≡ checkOf (scenarioWith model magnitude distance velocity mechanism period) ⌝ }
 {
-    if model == 1 {
-        return idriss_check(magnitude, distance, velocity, mechanism, period);
+    match model {
+        1 => idriss_check(magnitude, distance, velocity, mechanism, period),
+        2 => boore_atkinson_check(magnitude, distance, velocity, mechanism, period),
+        _ => Check::Refused(1),
     }
-    if model == 2 {
-        return boore_atkinson_check(magnitude, distance, velocity, mechanism, period);
-    }
-    Check::Refused(1)
 }
 
 // The first of the checks 1 to 6 that s fails, 0 where it fails none.

@@ -1,13 +1,12 @@
 -- `between_boore_atkinson` meets its contract.
-use mathlib.Core.Path.{_≡_, refl, sym, _∙_}
+use mathlib.Core.Path.{_≡_, refl, _∙_}
 use mathlib.Core.List.{_∷_}
-use native.Mathlib.Omega.{arith}
 use borrow.Author.Needs.{needs}
-use Rattle.interpolation_theory.specs.Steps.{stepOf}
+use Rattle.interpolation_theory.specs.Steps.{neighboursOf, stepOf}
 use Rattle.scenario_theory.specs.Refusal.{booreAtkinson}
 use Rattle.scenario_theory.specs.Neighbours.{neighbourBelow, neighbourAbove}
 use Rattle.scenario_theory.specs.Rows.{booreAtkinsonRow}
-use Rattle.engine_theory.proofs.RowLaws.{boore-atkinson-tabled, TakenAround, taken-around}
+use Rattle.engine_theory.proofs.RowLaws.{boore-atkinson-tabled, TakenAround, taken-around, not-first}
 use Rattle.engine_theory.proofs.Assembled.{boore-atkinson-interpolates, boore-atkinson-between-rows}
 use Rattle.engine.proofs.between_boore_atkinson.Statement.{statement}
 use Rattle.engine.proofs.between_boore_atkinson.Tie as tie
@@ -16,41 +15,36 @@ taken : (c : tie.Start) →
     TakenAround booreAtkinson booreAtkinsonRow (0 ∷ booreAtkinson .periods) (c .args .s) (c .args .k)
 taken c = taken-around boore-atkinson-tabled (c .pre .0)
 
-lower : (c : tie.After-boore-atkinson-period) →
-    c .boore-atkinson-period .result ≡ neighbourBelow booreAtkinson (c .before .args .s .period)
-lower c =
-    let t = taken (c .before) in c .boore-atkinson-period .ensures ∙ rw (t .row-is) (sym (t .around .step .lower))
-
-upper : (c : tie.After-boore-atkinson-period2) →
-    c .boore-atkinson-period2 .result ≡ neighbourAbove booreAtkinson (c .before .before .args .s .period)
-upper c =
-    let t = taken (c .before .before) in
-    c .boore-atkinson-period2 .ensures ∙ rw (t .row-is) (sym (t .around .step .upper))
+rows-are : (c : tie.After-boore-atkinson-neighbours) →
+    let T = c .before .args .s .period in
+    c .boore-atkinson-neighbours .result ≡ neighboursOf (neighbourBelow booreAtkinson T) (neighbourAbove booreAtkinson T)
+rows-are c =
+    let t = taken (c .before) in
+    let step = t .around .step in
+    c .boore-atkinson-neighbours .ensures ∙ rw (t .row-is, ← step .lower, ← step .upper) refl
 
 step-is : (c : tie.After-step) →
-    let T = c .before .before .before .args .s .period in
+    let T = c .before .before .args .s .period in
     c .step .result ≡ stepOf T (neighbourBelow booreAtkinson T) (neighbourAbove booreAtkinson T)
-step-is c = c .step .ensures ∙ rw (lower (c .before .before), upper (c .before)) refl
+step-is c = c .step .ensures ∙ rw (rows-are (c .before)) refl
 
 pub between-boore-atkinson-spec : {M : Type 1} → statement M
 between-boore-atkinson-spec =
     tie.close
     (tie.spec
-    (λ c κs. let t = taken c in rw (t .row-is) (omega (arith, t .around .last)))
-    (λ c. let t = taken (c .before) in rw (t .row-is) (omega (arith, t .around .last)))
-    (λ c κs. let t = taken (c .before) in rw (t .row-is) (t .around .last))
-    (λ c κs. rw (lower (c .before), upper c) (taken (c .before .before) .around .domains))
-    (λ c κs. let t = taken (c .before .before .before) in rw (t .row-is) (t .around .last))
+    (λ c κs. let t = taken c in rw (t .row-is) (not-first (t .around .rows), t .around .last))
+    (λ c κs. rw (rows-are c) (taken (c .before) .around .domain, refl))
+    (λ c κs. let t = taken (c .before .before) in rw (t .row-is) (t .around .last))
     (λ c κs.
-    let p = c .before .before .before .before .pre in
+    let p = c .before .before .before .pre in
     rw (step-is (c .before), p .1) (boore-atkinson-interpolates (p .0) .median))
     (λ c κs.
     let g = c .before in
-    let p = g .before .before .before .before .pre in
+    let p = g .before .before .before .pre in
     rw (step-is (g .before), g .sigma-rows .ensures) (boore-atkinson-interpolates (p .0) .sigma))
     (λ c.
     let m = c .before in
     let g = m .before in
-    let p = g .before .before .before .before .pre in
+    let p = g .before .before .before .pre in
     rw (c .interpolated2 .ensures, m .interpolated .ensures, step-is (g .before), g .sigma-rows .ensures, p .1)
     (boore-atkinson-between-rows (p .0))))

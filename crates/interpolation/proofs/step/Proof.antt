@@ -7,5 +7,5 @@ use Rattle.interpolation.proofs.step.Tie as tie
 pub step-spec : {M : Type 1} → statement M
 step-spec =
     tie.close
-    (tie.spec (λ c κs. search needs) (λ c κs. search needs)
-    (λ c. rw (c .ln2 .ensures .0, c .before .ln .ensures .0) refl))
+    (tie.spec (λ c. search needs) (λ c κs. search needs)
+    (λ c. rw (c .ln .ensures .0, c .before .before .before .pre .1) refl))

@@ -12,8 +12,7 @@ unfolding checkOf checkBy placeOf refusalOf refusalBy
 check-spec =
     tie.close
     (tie.spec
-    (λ c κs. search needs)
-    (λ c. rw (c .before .if1 .taken) (c .idriss-check .ensures))
-    (λ c κs. search needs)
-    (λ c. rw (c .before .if2 .taken) (c .boore-atkinson-check .ensures))
-    (λ c. simp (ne-eqb _ 1 (c .before .if1 .left), ne-eqb _ 2 (c .if2 .left)) refl))
+    (λ c κs. search needs) (λ c κs. search needs)
+    (λ c. rw (c .before .match .keys1) (c .idriss-check .ensures))
+    (λ c. rw (c .before .match .keys2) (c .boore-atkinson-check .ensures))
+    (λ c. let r = c .match .rest in simp (ne-eqb _ 1 (r .0 .1), ne-eqb _ 2 (r .1)) refl))
