@@ -31,7 +31,7 @@ use Rattle.boore_atkinson_theory.specs.SiteTerm.{nonlinearPart}
 use Rattle.boore_atkinson_theory.specs.Median.{p, median, sigma}
 use Rattle.boore_atkinson_theory.specs.Promise.{MedianDomain, NonlinearDomain, medianWidth, nonlinearWidth}
 use Rattle.boore_atkinson_theory.specs.Promise.{MedianEnds, NonlinearEnds, SigmaEnds}
-use Rattle.boore_atkinson_theory.specs.Evaluation.{effectiveOf, rockOf, minusPOf, nonlinearBy, nonlinearOf}
+use Rattle.boore_atkinson_theory.specs.Evaluation.{effectiveOf, rockOf, minusPOf, nonlinearBy}
 use Rattle.boore_atkinson_theory.specs.Evaluation.{medianPairOf, medianOf, nonlinearEndsOf, sigmaPairOf}
 use Rattle.boore_atkinson_theory.specs.Evaluation.{sigmaOf}
 use Rattle.boore_atkinson_theory.specs.Sizes.{linearMost, nonlinearMost, rockMost}

@@ -1,8 +1,7 @@
 // Answers a scenario, from its fields or from its record, with ends of median and sigma that enclose the exact values,
 // in whole units of 10^-9 or in doubles, or with the number of its refusal.
 ghost use mathlib.Core.Path.{_≡_};
-ghost use Prim.Native.Nat.{_+_, _^_, _<_};
-ghost use lib.IntN.{natAbs};
+ghost use Prim.Native.Nat.{_+_, _<_};
 ghost use Rattle.scenario_theory.specs.declared.Place.the-variants as P;
 ghost use Rattle.scenario_theory.specs.Refusal.{idriss, booreAtkinson, refusalOf};
 ghost use Rattle.scenario_theory.specs.Rows.{rowCount, idrissRow, booreAtkinsonRow, scenarioWith, Looked};
@@ -21,8 +20,8 @@ use interpolation::interpolated;
 use interpolation_theory::TwoRows;
 use interval::ends;
 use record_theory::PlacedReading;
-use row_steps::boore_atkinson_neighbours;
-use row_steps::idriss_neighbours;
+use row_neighbours::boore_atkinson_neighbours;
+use row_neighbours::idriss_neighbours;
 use scenario_theory::Check;
 use scenario_theory::Place;
 use scenario_theory::Scenario;

@@ -35,7 +35,7 @@ use Rattle.engine_theory.specs.declared.Enclosure.{Enclosure}
 use Rattle.engine_theory.specs.Steps.{TakenBy, idrissRowsOf, booreAtkinsonRowsOf}
 use Rattle.engine_theory.specs.Evaluation.{enclosureOf}
 use Rattle.engine_theory.proofs.RowLaws.{idriss-tabled, boore-atkinson-tabled, taken-at-row}
-use Rattle.engine_theory.proofs.RowLaws.{taken-around, not-first}
+use Rattle.engine_theory.proofs.RowLaws.{taken-on-step, not-first}
 
 -- the rows k and k + 1
 both-rows : (k : ℕ) (by-row : ℕ → SignedPair) →
@@ -74,9 +74,9 @@ module _ {s : Scenario} {k : ℕ} where
         let step = stepOf (s .period) (neighbourBelow idriss (s .period)) (neighbourAbove idriss (s .period)) in
         InterpolationDomain (rows .lower) (rows .upper) (step .part) (step .whole)
     idriss-interpolates =
-        let r = taken-around idriss-tabled t in
-        let d = idriss-median-domain s (r .around .last) (r .within) in
-        rw (r .row-is, both-rows) (idriss-takes (takesTable3 (s .magnitude)) (s .mechanism) d (r .around .step))
+        let r = taken-on-step idriss-tabled t in
+        let d = idriss-median-domain s (r .on-step .last) (r .within) in
+        rw (r .row-is, both-rows) (idriss-takes (takesTable3 (s .magnitude)) (s .mechanism) d (r .on-step .step))
 
     pub idriss-between-rows :
         let step = stepOf (s .period) (neighbourBelow idriss (s .period)) (neighbourAbove idriss (s .period)) in
@@ -87,10 +87,10 @@ module _ {s : Scenario} {k : ℕ} where
         } (enclosureOf s)
     unfolding enclosureOf idrissBetweenOf
     idriss-between-rows =
-        let r = taken-around idriss-tabled t in
+        let r = taken-on-step idriss-tabled t in
         let b = takesTable3 (s .magnitude) in
         rw (t .model, r .none, r .row-is, both-rows, idriss-row-at b (neighbourBelow idriss (s .period)))
-        (rw (idriss-row-at b (neighbourAbove idriss (s .period)), r .around .rows .next) refl)
+        (rw (idriss-row-at b (neighbourAbove idriss (s .period)), r .on-step .rows .next) refl)
 
   -- ---- Boore and Atkinson
 
@@ -131,13 +131,13 @@ module _ {s : Scenario} {k : ℕ} where
 
     pub boore-atkinson-interpolates : Interpolates
     boore-atkinson-interpolates =
-        let r = taken-around boore-atkinson-tabled t in
-        let d = boore-atkinson-median-domain s (r .around .last) (r .within) in
+        let r = taken-on-step boore-atkinson-tabled t in
+        let d = boore-atkinson-median-domain s (r .on-step .last) (r .within) in
         record {
           median = rw (r .row-is, both-rows)
-              (boore-atkinson-takes (s .mechanism) (not-first (r .around .rows)) d (r .around .step));
+              (boore-atkinson-takes (s .mechanism) (not-first (r .on-step .rows)) d (r .on-step .step));
           sigma = rw (r .row-is, both-rows)
-              (sigma-takes (s .mechanism) (not-first (r .around .rows)) (r .around .last) (r .around .step));
+              (sigma-takes (s .mechanism) (not-first (r .on-step .rows)) (r .on-step .last) (r .on-step .step));
         }
 
     pub boore-atkinson-between-rows :
@@ -150,8 +150,8 @@ module _ {s : Scenario} {k : ℕ} where
         } (enclosureOf s)
     unfolding enclosureOf booreAtkinsonBetweenOf sigmaBetweenOf
     boore-atkinson-between-rows =
-        let r = taken-around boore-atkinson-tabled t in
+        let r = taken-on-step boore-atkinson-tabled t in
         let T1 = neighbourBelow booreAtkinson (s .period) in
         let T2 = neighbourAbove booreAtkinson (s .period) in
         rw (t .model, r .none, r .row-is, both-rows, both-rows, row-at T1, row-at T2, total-at T1, total-at T2)
-        (rw (r .around .rows .next) refl)
+        (rw (r .on-step .rows .next) refl)

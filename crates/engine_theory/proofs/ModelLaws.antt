@@ -15,12 +15,9 @@ use Rattle.interval_theory.specs.declared.SignedEnds.{SignedEnds}
 use Rattle.interval_theory.specs.Signed.{SmallerThan}
 use Rattle.interval_theory.specs.Bound.{Reaches}
 use Rattle.interval_theory.proofs.SignedBounds.{reaches-more}
-use Rattle.interpolation_theory.specs.declared.Step.{Step}
-use Rattle.interpolation_theory.specs.Between.{between}
-use Rattle.interpolation_theory.specs.Steps.{stepOf}
 use Rattle.interpolation_theory.specs.Promise.{BetweenEnds}
 use Rattle.scenario_theory.specs.declared.Scenario.{Scenario}
-use Rattle.scenario_theory.specs.Refusal.{Limits, idriss, booreAtkinson, refusalOf}
+use Rattle.scenario_theory.specs.Refusal.{idriss, booreAtkinson, refusalOf}
 use Rattle.scenario_theory.specs.Neighbours.{hasRow, neighbourBelow, neighbourAbove}
 use Rattle.scenario_theory.proofs.RefusalLaws.{Within, of-model}
 use Rattle.scenario_theory.proofs.RowLaws.{idriss-row, boore-atkinson-row}
@@ -42,14 +39,14 @@ use Rattle.boore_atkinson_theory.proofs.Laws.{sigmaOf-promise as boore-atkinson
 use Rattle.boore_atkinson_theory.proofs.Ranges.{medianOf-reaches as boore-atkinson-median-reaches}
 use Rattle.boore_atkinson_theory.proofs.Between.{medianBetweenOf-promise, sigmaBetweenOf-promise}
 use Rattle.engine_theory.specs.declared.Enclosure.{Enclosure}
-use Rattle.engine_theory.specs.Models.{atPeriod, idrissMedianBy, median, sigma, idrissWidth, booreAtkinsonWidth}
+use Rattle.engine_theory.specs.Models.{idrissMedianBy, median, sigma, idrissWidth, booreAtkinsonWidth}
 use Rattle.engine_theory.specs.Models.{widthAt, medianWidth, idrissSigmaWidth, sigmaBetweenWidth, sigmaWidth}
 use Rattle.engine_theory.specs.Models.{booreAtkinsonMedianBy, booreAtkinsonSigmaBy}
 use Rattle.engine_theory.specs.Promise.{EnclosedWithin}
 use Rattle.engine_theory.specs.Ranges.{medianLeast, medianMost, InRange}
-use Rattle.engine_theory.specs.Evaluation.{atPeriodOf, idrissMedianEnds, booreAtkinsonMedianEnds}
+use Rattle.engine_theory.specs.Evaluation.{idrissMedianEnds, booreAtkinsonMedianEnds}
 use Rattle.engine_theory.specs.Evaluation.{booreAtkinsonSigmaEnds, enclosureOf, SmallEnclosure}
-use Rattle.engine_theory.proofs.RowLaws.{idriss-tabled, boore-atkinson-tabled, around, not-first}
+use Rattle.engine_theory.proofs.RowLaws.{idriss-tabled, boore-atkinson-tabled, on-step, not-first}
 
 -- two ends enclose f, at most w units apart, and a double equals each
 pub record Ends (w : ℕ) (f : Formula) (e : SignedEnds) : Type 0 where
@@ -113,7 +110,7 @@ module _ (s : Scenario) where
         let own = ends-of _ idrissPromise.medianWidth idrissWidth (omega arith) (m .encloses) (m .narrow) (m .small) in
         median-ends own (omega arith) (omega arith) r)
         (λ e.
-        let b = around idriss-tabled T e (w .period) in
+        let b = on-step idriss-tabled T e (w .period) in
         let d = idriss-median-domain s (b .last) w in
         let m =
         rw (
@@ -145,7 +142,7 @@ module _ (s : Scenario) where
         let own = ends-of _ width booreAtkinsonWidth (omega arith) (m .encloses) (m .narrow) (m .small) in
         median-ends own (omega arith) (omega arith) r)
         (λ e.
-        let b = around boore-atkinson-tabled T e (w .period) in
+        let b = on-step boore-atkinson-tabled T e (w .period) in
         let d = boore-atkinson-median-domain s (b .last) w in
         let m =
         rw (← b .rows .next, ← row-at (neighbourBelow booreAtkinson T), ← row-at (neighbourAbove booreAtkinson T)) at
@@ -160,7 +157,7 @@ module _ (s : Scenario) where
         let g = rw (← total-at T) at (boore-atkinson-sigma-promise _ (s .mechanism) (boore-atkinson-row T e)) in
         ends-of _ 0 0 (omega arith) (g .encloses) (no-units _ (g .equal)) (g .small))
         (λ e.
-        let b = around boore-atkinson-tabled T e (w .period) in
+        let b = on-step boore-atkinson-tabled T e (w .period) in
         let T1 = neighbourBelow booreAtkinson T in
         let T2 = neighbourAbove booreAtkinson T in
         let g =

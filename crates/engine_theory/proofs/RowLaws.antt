@@ -5,7 +5,7 @@ use mathlib.Core.List.{List, _∷_}
 use Prim.Native.Nat.{ℕ, _+_, _≤_, _<_}
 use native.Mathlib.Omega.{arith}
 use borrow.Author.Tests.{eq-eqb, ne-eqb}
-use lib.Dec.{T, eqb, leb, eqb→eq, leb→le}
+use lib.Dec.{T, eqb, leb, leb→le}
 use lib.ListN.{getD}
 use Rattle.toolbox_theory.specs.Lists.{among}
 use Rattle.toolbox_theory.proofs.Tests.{each}
@@ -16,9 +16,10 @@ use Rattle.scenario_theory.specs.declared.Scenario.{Scenario}
 use Rattle.scenario_theory.specs.declared.Place.{Place}
 use Rattle.scenario_theory.specs.declared.Place.the-variants as P
 use Rattle.scenario_theory.specs.Refusal.{Limits, idriss, booreAtkinson, beyondPeriods, refusalOf}
-use Rattle.scenario_theory.specs.Neighbours.{hasRow, neighbourBelow, neighbourAbove, idrissPrinted}
+use Rattle.scenario_theory.specs.Neighbours.{hasRow, neighbourBelow, neighbourAbove}
 use Rattle.scenario_theory.specs.Rows.{idrissRow, booreAtkinsonRow, rowCount, placeBy, placeOf, BetweenRows}
-use Rattle.scenario_theory.proofs.RowLaws.{idriss-row, boore-atkinson-row, idriss-printed, boore-atkinson-printed}
+use Rattle.scenario_theory.proofs.RowLaws.{idriss-row, boore-atkinson-row, idriss-printed, printed-itself}
+use Rattle.scenario_theory.proofs.RowLaws.{boore-atkinson-printed}
 use Rattle.scenario_theory.proofs.RefusalLaws.{Within, within-idriss, within-boore-atkinson}
 use Rattle.scenario_theory.proofs.RowLaws.{idriss-between, boore-atkinson-between, at-row, between-of}
 use Rattle.engine_theory.specs.Steps.{TakenBy, firstIn, lastIn}
@@ -44,9 +45,7 @@ pub record Tabled (n : ℕ) (m : Limits) (row : ℕ → ℕ) (list : List ℕ) :
 
 pub idriss-tabled : Tabled 1 idriss idrissRow (idriss .periods)
 idriss-tabled = record {
-  listed = λ t e.
-      sym (idriss-printed t (or-right (eqb t 0) e) ∙
-      eqb→eq _ _ (all-at (λ t. eqb (idrissPrinted t) t) (idriss .periods) t tt e));
+  listed = λ t e. sym (idriss-printed t (or-right (eqb t 0) e) ∙ printed-itself t e);
   few = idriss-row;
   sizes = tt;
   between = idriss-between;
@@ -63,18 +62,18 @@ boore-atkinson-tabled = record {
 }
 
 -- of a period without a row
-pub record Around (m : Limits) (row : ℕ → ℕ) (list : List ℕ) (T : ℕ) : Type 0 where
+pub record OnStep (m : Limits) (row : ℕ → ℕ) (list : List ℕ) (T : ℕ) : Type 0 where
   pub rows : BetweenRows m row T
   pub step : StepAt list (row (neighbourBelow m T)) (stepOf T (neighbourBelow m T) (neighbourAbove m T))
   pub last : row (neighbourBelow m T) + 1 < rowCount
   pub domain : LnDomain T (neighbourBelow m T)
 
 -- of a scenario that is taken at such a period
-pub record TakenAround (m : Limits) (row : ℕ → ℕ) (list : List ℕ) (s : Scenario) (k : ℕ) : Type 0 where
+pub record TakenOnStep (m : Limits) (row : ℕ → ℕ) (list : List ℕ) (s : Scenario) (k : ℕ) : Type 0 where
   pub none : hasRow m (s .period) ≡ false
   pub row-is : k ≡ row (neighbourBelow m (s .period))
   pub within : Within m s
-  pub around : Around m row list (s .period)
+  pub on-step : OnStep m row list (s .period)
 
 -- of one that is taken at a row
 pub taken-at-row : {n : ℕ} {m : Limits} {row : ℕ → ℕ} {s : Scenario} {k : ℕ} → TakenBy n m row s (P.Row k) →
@@ -88,8 +87,8 @@ module _ {n : ℕ} {m : Limits} {row : ℕ → ℕ} {list : List ℕ} (tabled : 
       each (leb 1 t) (leb t 10_000) (leb→le _ _) (leb→le _ _)
       (all-at (λ t. leb 1 t && leb t 10_000) (m .periods) t (tabled .sizes) e)
 
-  pub around : (T : ℕ) → hasRow m T ≡ false → beyondPeriods T ≡ false → Around m row list T
-  around T none ok =
+  pub on-step : (T : ℕ) → hasRow m T ≡ false → beyondPeriods T ≡ false → OnStep m row list T
+  on-step T none ok =
       let b = tabled .between T none ok in
       let low = size (neighbourBelow m T) (b .first) in
       let high = size (neighbourAbove m T) (b .second) in
@@ -107,16 +106,16 @@ module _ {n : ℕ} {m : Limits} {row : ℕ → ℕ} {list : List ℕ} (tabled : 
       }
 
   module _ {s : Scenario} where
-    pub taken-around : {k : ℕ} → TakenBy n m row s (P.Between k) → TakenAround m row list s k
-    taken-around t =
+    pub taken-on-step : {k : ℕ} → TakenBy n m row s (P.Between k) → TakenOnStep m row list s k
+    taken-on-step t =
         let b = between-of m row (s .period) (sym (t .place)) in
         let w = tabled .within s (t .model) (t .accepted) in
-        record { none = b .0; row-is = b .1; within = w; around = around (s .period) (b .0) (w .period) }
+        record { none = b .0; row-is = b .1; within = w; on-step = on-step (s .period) (b .0) (w .period) }
 
     -- the last row of a place is in the tables
     pub last-taken : (p : Place) → TakenBy n m row s p → lastIn p < rowCount
     last-taken (P.Row k) t = let r = taken-at-row t in rw (r .1) (tabled .few _ (r .0))
-    last-taken (P.Between k) t = let r = taken-around t in rw (r .row-is) (r .around .last)
+    last-taken (P.Between k) t = let r = taken-on-step t in rw (r .row-is) (r .on-step .last)
 
 -- the row PGA is no neighbour
 pub not-first : {T : ℕ} → BetweenRows booreAtkinson booreAtkinsonRow T →

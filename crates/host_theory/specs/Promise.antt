@@ -52,8 +52,8 @@ pub record HostWritingPromise (x : Scenario) (lent : List ℕ) (r : HostWriting)
 abbrev pub rowsRefusal : ℕ → ℕ → ℕ
 rowsRefusal model T = 1 when not (eqb model 1 || eqb model 2) otherwise 6 when beyondPeriods T
 
--- the rows at T (W-201): T lies from the one period to the other, but that 0 is peak acceleration; with a refusal they
--- are zeros. Which rows they are, `rowPeriodsOf` says
+-- the rows at T (W-201), where k is the number of the first check that applies: T lies from the one period to the
+-- other, but that 0 is peak acceleration; with a refusal they are zeros. Which rows they are, `rowPeriodsOf` says
 pub record HostRowsPromise (k T : ℕ) (r : HostPeriods) : Type 0 where
   pub number : r .number ≡ k
   pub below : r .number ≡ 0 → 1 ≤ T → r .lower ≤ T

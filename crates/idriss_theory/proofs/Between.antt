@@ -1,6 +1,6 @@
 -- What `medianBetweenOf` promises (specs/Promise), between any two neighbouring rows of either table.
 use mathlib.Core.Bool.{Bool}
-use Prim.Native.Nat.{ℕ, _+_, _*_, _-_, _^_, _<_}
+use Prim.Native.Nat.{ℕ, _+_, _-_}
 use native.Mathlib.Omega.{arith}
 use lib.Count.{leadingZeros}
 use lib.Dec.{T}
@@ -10,7 +10,7 @@ use Rattle.logarithm_tables_theory.specs.Tables.{coarseAt, fineAt}
 use Rattle.logarithm_theory.specs.Evaluation.{scaledOf, nearOneOf, mantissaLnOf, scaledLnOf, lnOf}
 use Rattle.interpolation_theory.specs.declared.Step.{Step}
 use Rattle.interpolation_theory.specs.Evaluation.{InterpolationDomain}
-use Rattle.interpolation_theory.specs.Steps.{StepAt, Neighbouring, stepLeast}
+use Rattle.interpolation_theory.specs.Steps.{StepAt, Neighbouring}
 use Rattle.interpolation_theory.proofs.StepLaws.{gap, neighbouring, step-takes, between-promise}
 use Rattle.scenario_theory.specs.Refusal.{idriss}
 use Rattle.scenario_theory.specs.Rows.{rowCount}

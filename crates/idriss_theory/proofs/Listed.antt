@@ -2,25 +2,19 @@
 use mathlib.Core.Path.{_≡_, refl}
 use mathlib.Core.Bool.{Bool, true}
 use mathlib.Core.List.{List, [], _∷_}
-use Prim.Native.Nat.{ℕ, suc, _+_, _<_, min, max}
+use Prim.Native.Nat.{ℕ, suc, _<_}
 use native.Mathlib.Omega.{arith}
 use lib.Count.{leadingZeros}
 use lib.Dec.{T, eqb, eqb→eq}
 use Rattle.toolbox_theory.specs.Lists.{among}
-use Rattle.toolbox_theory.proofs.Tests.{allBelow, below, allLe, all-le, equal, is-true}
+use Rattle.toolbox_theory.proofs.Tests.{allLe, all-le, equal, is-true}
 use Rattle.toolbox_theory.proofs.ListLaws.{all, all-at}
-use Rattle.interval_theory.specs.declared.Ends.{Ends}
-use Rattle.interval_theory.specs.Bound.{size, Sized}
-use Rattle.interval_theory.proofs.Bounded.{given, multiple, at-most}
 use Rattle.logarithm_tables_theory.specs.Tables.{coarseAt, fineAt}
-use Rattle.logarithm_theory.specs.Promise.{LnDomain, lnWidth}
-use Rattle.logarithm_theory.specs.Bound.{lnMost}
 use Rattle.logarithm_theory.specs.Evaluation.{scaledOf, nearOneOf, mantissaLnOf, scaledLnOf, lnOf}
 use Rattle.scenario_theory.specs.Refusal.{idriss}
 use Rattle.scenario_theory.specs.Neighbours.{hasRow}
 use Rattle.scenario_theory.specs.Rows.{idrissRow, rowCount}
 use Rattle.idriss_theory.specs.Periods.{listedAt, periodLogarithm}
-use Rattle.idriss_theory.specs.Sizes.{periodTermMost}
 use Rattle.idriss_theory.specs.Evaluation.{periodLnOf, clampedPeriod, clampedRow}
 
 pub record Listed (t : ℕ) : Type 0 where

@@ -69,16 +69,16 @@ pub fn neighbours(lower: u16, upper: u16) -> Neighbours
 }
 
 // The step from one row to the next, with a period T between them: ln(T/T1) and ln(T2/T1).
-pub fn step(rows: Neighbours, period: u16) -> Step
-    requires { ⌜ LnDomain period (rows .lower) × (rows .whole ≡ lnOf (rows .upper) (rows .lower)) ⌝ }
-    ensures { λ r. ⌜ r ≡ stepOf period (rows .lower) (rows .upper) ⌝ }
+pub fn step(near: Neighbours, period: u16) -> Step
+    requires { ⌜ LnDomain period (near .lower) × (near .whole ≡ lnOf (near .upper) (near .lower)) ⌝ }
+    ensures { λ r. ⌜ r ≡ stepOf period (near .lower) (near .upper) ⌝ }
 {
-    let whole = rows.whole;
+    let whole = near.whole;
     Step {
         period,
-        lower: rows.lower,
-        upper: rows.upper,
-        part: logarithm::ln(period as u64, rows.lower as u64),
+        lower: near.lower,
+        upper: near.upper,
+        part: logarithm::ln(period as u64, near.lower as u64),
         whole,
     }
 }

@@ -1,9 +1,7 @@
 -- What is promised between two neighbouring rows (specs/Promise), and that the code takes it: one law for both medians
 -- and for Boore-Atkinson's sigma.
-use mathlib.Core.Path.{_≡_}
-use mathlib.Core.Bool.{Bool, _&&_}
 use mathlib.Core.List.{List, [], _∷_}
-use Prim.Native.Nat.{ℕ, suc, _+_, _*_, _^_, _≤_, _<_}
+use Prim.Native.Nat.{ℕ, _+_, _*_, _^_, _≤_, _<_}
 use native.Mathlib.Nat.{mul-le-mul-left, mul-le-mul-right}
 use native.Mathlib.Omega.{arith}
 use lib.Dec.{T}
@@ -15,7 +13,6 @@ use Rattle.interval_theory.specs.declared.SignedPair.{SignedPair}
 use Rattle.interval_theory.specs.Bound.{Bound, SignedWithin, Ranges, Near}
 use Rattle.logarithm_theory.specs.Promise.{LnDomain, lnWidth}
 use Rattle.logarithm_theory.specs.Evaluation.{lnOf}
-use Rattle.logarithm_theory.proofs.Bounds.{ln-sized}
 use Rattle.logarithm_theory.proofs.Enclosure.{PairAtPoints, encloses}
 use Rattle.interpolation_theory.specs.declared.Step.{Step}
 use Rattle.interpolation_theory.specs.Between.{between}

@@ -5,7 +5,6 @@ ghost use lib.ListN.{length};
 ghost use lib.Seq.{sets};
 ghost use Rattle.stores_theory.specs.Stores.{Put};
 ghost use Rattle.engine_theory.specs.declared.Answer.the-variants.{Enclosed, Refused};
-ghost use Rattle.report_theory.specs.Text.{decimal};
 ghost use Rattle.report_theory.specs.Lines.{lineOf, endBytes, lastLineOf, lengthOn, bytesAfter};
 ghost use Rattle.report_theory.specs.Steps.{Counted, wordOf, wordsFor, signBytes, wordBytes, bothBytes, headBytes};
 use decimal::decimal_length;

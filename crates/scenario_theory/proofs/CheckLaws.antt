@@ -37,11 +37,6 @@ pub unless-is : {A : Type 0} (k : ℕ) {a b r : A} → unlessRefused k a b ≡ r
 unless-is zero e = inl (refl, e)
 unless-is (suc k) e = inr (λ z. absurd (omega arith), e)
 
--- only a has to be the same, where it counts
-pub same-unless : {A : Type 0} (k : ℕ) {a b : A} (c : A) → (k ≡ 0 → a ≡ b) → unlessRefused k a c ≡ unlessRefused k b c
-same-unless zero c e = e refl
-same-unless (suc k) c e = refl
-
 -- a function of it
 pub of-unless : {A B : Type 0} (f : A → B) (k : ℕ) (a b : A) →
     f (unlessRefused k a b) ≡ unlessRefused k (f a) (f b)

@@ -4,10 +4,10 @@ use mathlib.Core.Bool.{Bool, true, false, cond}
 use mathlib.Core.List.{List, _∷_}
 use Prim.Native.Nat.{ℕ, _-_, _<_}
 use native.Mathlib.Omega.{arith}
-use lib.Dec.{eqb, eqb→eq}
+use lib.Dec.{eqb}
 use lib.ListN.{getD}
 use Rattle.toolbox_theory.specs.Lists.{among}
-use Rattle.toolbox_theory.proofs.ListLaws.{or-right, all-at}
+use Rattle.toolbox_theory.proofs.ListLaws.{or-right}
 use Rattle.scenario_theory.specs.declared.Check.{Check}
 use Rattle.scenario_theory.specs.declared.Check.the-variants as C
 use Rattle.scenario_theory.specs.declared.Place.the-variants as P
@@ -19,7 +19,7 @@ use Rattle.scenario_theory.specs.Rows.{BetweenRows, placeBy, idrissRow, 
 use Rattle.scenario_theory.specs.Rows.{booreAtkinsonPlace, periodsAt, InTable}
 use Rattle.scenario_theory.proofs.RowLaws.{Listed, place, placed, between-rows, idriss-row, boore-atkinson-row}
 use Rattle.scenario_theory.proofs.RowLaws.{idriss-listed, boore-atkinson-listed, idriss-printed}
-use Rattle.scenario_theory.proofs.RowLaws.{boore-atkinson-printed}
+use Rattle.scenario_theory.proofs.RowLaws.{printed-itself, boore-atkinson-printed}
 
 module _ (first : ℕ) (m : Limits) (row : ℕ → ℕ) (l : Listed first m row)
     (few : (t : ℕ) → hasRow m t ≡ true → row t < rowCount) (t : ℕ) where
@@ -72,7 +72,7 @@ pub idriss-periods : (t : ℕ) → periodsAt (idriss .periods) (idrissPlace t) �
 unfolding idrissPlace
 idriss-periods t =
     periods-by-row 0 idriss idrissRow idriss-listed idriss-row t idrissPrinted (idriss .periods) idriss-printed
-    (λ t e. eqb→eq _ _ (all-at (λ t. eqb (idrissPrinted t) t) (idriss .periods) t tt e))
+    printed-itself
 
 pub boore-atkinson-periods : (t : ℕ) →
     periodsAt (0 ∷ booreAtkinson .periods) (booreAtkinsonPlace t) ≡ rowPeriodsBy booreAtkinson (λ t. t) t

@@ -263,6 +263,9 @@ idriss-printed t e =
     eqb→eq _ _
     (all-at (λ t. eqb (getD (idriss .periods) (idrissRow t) 0) (idrissPrinted t)) (0 ∷ idriss .periods) t tt e)
 
+pub printed-itself : (t : ℕ) → among (idriss .periods) t ≡ true → idrissPrinted t ≡ t
+printed-itself t e = eqb→eq _ _ (all-at (λ t. eqb (idrissPrinted t) t) (idriss .periods) t tt e)
+
 pub boore-atkinson-printed : (t : ℕ) → hasRow booreAtkinson t ≡ true →
     getD (0 ∷ booreAtkinson .periods) (booreAtkinsonRow t) 0 ≡ t
 unfolding booreAtkinsonRow

@@ -4,7 +4,6 @@ use native.Mathlib.Omega.{arith}
 use borrow.Author.Needs.{needs}
 use borrow.Author.Tests.{le-leb, lt-leb}
 use Rattle.boore_atkinson_theory.specs.Evaluation.{curveFor}
-use Rattle.boore_atkinson_theory.proofs.Sums.{as-sized}
 use Rattle.boore_atkinson.proofs.curve_for.Statement.{statement}
 use Rattle.boore_atkinson.proofs.curve_for.Tie as tie
 

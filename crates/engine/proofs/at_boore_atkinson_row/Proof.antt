@@ -1,5 +1,4 @@
 -- `at_boore_atkinson_row` meets its contract.
-use borrow.Author.Needs.{needs}
 use Rattle.scenario_theory.proofs.RowLaws.{boore-atkinson-row}
 use Rattle.engine_theory.proofs.RowLaws.{taken-at-row}
 use Rattle.engine_theory.proofs.Assembled.{boore-atkinson-moderate, boore-atkinson-at-row}

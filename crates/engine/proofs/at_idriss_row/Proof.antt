@@ -1,6 +1,4 @@
 -- `at_idriss_row` meets its contract.
-use mathlib.Core.Path.{_∙_}
-use borrow.Author.Needs.{needs}
 use Rattle.engine_theory.proofs.RowLaws.{taken-at-row}
 use Rattle.engine_theory.proofs.Assembled.{idriss-moderate, idriss-at-row}
 use Rattle.engine.proofs.at_idriss_row.Statement.{statement}

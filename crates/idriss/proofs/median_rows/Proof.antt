@@ -1,9 +1,8 @@
 -- `median_rows` meets its contract: the loop has the medians by the last two rows that it has passed.
-use mathlib.Core.Path.{_≡_, refl, _∙_}
-use Prim.Native.Nat.{ℕ, _+_, _-_, _≤_}
+use mathlib.Core.Path.{_≡_}
+use Prim.Native.Nat.{_+_, _-_, _≤_}
 use native.Mathlib.Omega.{arith}
 use borrow.Author.Needs.{needs}
-use Rattle.interval_theory.specs.declared.SignedPair.{SignedPair}
 use Rattle.interpolation_theory.proofs.Passing.{Passed, none-passed, one-passed, all-passed}
 use Rattle.idriss_theory.specs.Rows.{rowAt}
 use Rattle.idriss_theory.specs.Evaluation.{medianPairBy}

@@ -1,5 +1,5 @@
 -- `probe_idriss_sigma` meets its contract.
-use mathlib.Core.Path.{refl, sym, ap, _∙_}
+use mathlib.Core.Path.{sym, ap, _∙_}
 use borrow.Author.Needs.{needs}
 use borrow.Author.Tests.{ne-eqb}
 use Rattle.scenario_theory.specs.declared.Scenario.{Scenario}

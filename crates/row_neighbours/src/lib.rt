@@ -1,5 +1,5 @@
-// The neighbouring rows of each model's tables, by their periods, with ln(T2/T1). In each line both periods are known, so
-// that the compiler works the logarithm out, and what is left is a look-up.
+// The neighbouring rows of each model's tables, by their periods, with ln(T2/T1). In each line both periods are known,
+// so that the compiler works the logarithm out, and what is left is a look-up.
 ghost use mathlib.Core.Path.{_≡_};
 ghost use mathlib.Core.List.{_∷_};
 ghost use Prim.Native.Nat.{_+_, _≤_, _<_};

@@ -4,8 +4,8 @@ use Prim.Native.Nat.{_+_, _-_}
 use native.Mathlib.Omega.{arith}
 use borrow.Author.Needs.{needs}
 use Rattle.scenario_theory.proofs.RowLaws.{period-up-to-30, period-from-50}
-use Rattle.row_steps.proofs.boore_atkinson_neighbours.Statement.{statement}
-use Rattle.row_steps.proofs.boore_atkinson_neighbours.Tie as tie
+use Rattle.row_neighbours.proofs.boore_atkinson_neighbours.Statement.{statement}
+use Rattle.row_neighbours.proofs.boore_atkinson_neighbours.Tie as tie
 
 up-to-30 : tie.Need-returns
 up-to-30 c =

@@ -3,8 +3,8 @@
 use native.Mathlib.Omega.{arith}
 use borrow.Author.Needs.{needs}
 use Rattle.toolbox_theory.proofs.Places.{only-last}
-use Rattle.row_steps.proofs.idriss_neighbours.Statement.{statement}
-use Rattle.row_steps.proofs.idriss_neighbours.Tie as tie
+use Rattle.row_neighbours.proofs.idriss_neighbours.Statement.{statement}
+use Rattle.row_neighbours.proofs.idriss_neighbours.Tie as tie
 
 pub idriss-neighbours-spec : {M : Type 1} → statement M
 idriss-neighbours-spec =
