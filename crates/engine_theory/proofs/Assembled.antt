@@ -9,7 +9,6 @@ use Rattle.interval_theory.specs.declared.SignedPair.{SignedPair}
 use Rattle.interval_theory.proofs.SignedBounds.{moderate}
 use Rattle.interpolation_theory.specs.declared.TwoRows.{TwoRows}
 use Rattle.interpolation_theory.specs.Evaluation.{twoRowsOf, interpolatedOf, InterpolationDomain}
-use Rattle.interpolation_theory.specs.Steps.{stepOf}
 use Rattle.scenario_theory.specs.declared.Scenario.{Scenario}
 use Rattle.scenario_theory.specs.declared.Place.the-variants as P
 use Rattle.scenario_theory.specs.Refusal.{idriss, booreAtkinson}
@@ -32,7 +31,7 @@ use Rattle.boore_atkinson_theory.proofs.Accepted.{median-domain as boore-atkins
 use Rattle.boore_atkinson_theory.proofs.Laws.{medianPairOf-sized as boore-atkinson-sized}
 use Rattle.boore_atkinson_theory.proofs.Between.{between-takes as boore-atkinson-takes, sigma-takes}
 use Rattle.engine_theory.specs.declared.Enclosure.{Enclosure}
-use Rattle.engine_theory.specs.Steps.{TakenBy, idrissRowsOf, booreAtkinsonRowsOf}
+use Rattle.engine_theory.specs.Steps.{TakenBy, stepAround, idrissRowsOf, booreAtkinsonRowsOf}
 use Rattle.engine_theory.specs.Evaluation.{enclosureOf}
 use Rattle.engine_theory.proofs.RowLaws.{idriss-tabled, boore-atkinson-tabled, taken-at-row}
 use Rattle.engine_theory.proofs.RowLaws.{taken-on-step, not-first}
@@ -71,7 +70,7 @@ module _ {s : Scenario} {k : ℕ} where
     rows = idrissRowsOf s k (k + 1)
 
     pub idriss-interpolates :
-        let step = stepOf (s .period) (neighbourBelow idriss (s .period)) (neighbourAbove idriss (s .period)) in
+        let step = stepAround idriss (s .period) in
         InterpolationDomain (rows .lower) (rows .upper) (step .part) (step .whole)
     idriss-interpolates =
         let r = taken-on-step idriss-tabled t in
@@ -79,7 +78,7 @@ module _ {s : Scenario} {k : ℕ} where
         rw (r .row-is, both-rows) (idriss-takes (takesTable3 (s .magnitude)) (s .mechanism) d (r .on-step .step))
 
     pub idriss-between-rows :
-        let step = stepOf (s .period) (neighbourBelow idriss (s .period)) (neighbourAbove idriss (s .period)) in
+        let step = stepAround idriss (s .period) in
         _≡_ {A = Enclosure}
         record {
           median = interpolatedOf (rows .lower) (rows .upper) (step .part) (step .whole);
@@ -121,12 +120,10 @@ module _ {s : Scenario} {k : ℕ} where
 
     pub record Interpolates : Type 0 where
       pub median :
-          let step =
-          stepOf (s .period) (neighbourBelow booreAtkinson (s .period)) (neighbourAbove booreAtkinson (s .period)) in
+          let step = stepAround booreAtkinson (s .period) in
           InterpolationDomain (medians .lower) (medians .upper) (step .part) (step .whole)
       pub sigma :
-          let step =
-          stepOf (s .period) (neighbourBelow booreAtkinson (s .period)) (neighbourAbove booreAtkinson (s .period)) in
+          let step = stepAround booreAtkinson (s .period) in
           InterpolationDomain (sigmas .lower) (sigmas .upper) (step .part) (step .whole)
 
     pub boore-atkinson-interpolates : Interpolates
@@ -141,8 +138,7 @@ module _ {s : Scenario} {k : ℕ} where
         }
 
     pub boore-atkinson-between-rows :
-        let step =
-        stepOf (s .period) (neighbourBelow booreAtkinson (s .period)) (neighbourAbove booreAtkinson (s .period)) in
+        let step = stepAround booreAtkinson (s .period) in
         _≡_ {A = Enclosure}
         record {
           median = interpolatedOf (medians .lower) (medians .upper) (step .part) (step .whole);

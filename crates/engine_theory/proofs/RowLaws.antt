@@ -11,7 +11,10 @@ use Rattle.toolbox_theory.specs.Lists.{among}
 use Rattle.toolbox_theory.proofs.Tests.{each}
 use Rattle.toolbox_theory.proofs.ListLaws.{or-right, all, all-at}
 use Rattle.logarithm_theory.specs.Promise.{LnDomain}
-use Rattle.interpolation_theory.specs.Steps.{stepOf, StepAt}
+use Rattle.logarithm_theory.specs.Evaluation.{lnOf}
+use Rattle.interpolation_theory.specs.declared.Neighbours.{Neighbours}
+use Rattle.interpolation_theory.specs.declared.Step.{Step}
+use Rattle.interpolation_theory.specs.Steps.{neighboursOf, stepOf, StepAt}
 use Rattle.scenario_theory.specs.declared.Scenario.{Scenario}
 use Rattle.scenario_theory.specs.declared.Place.{Place}
 use Rattle.scenario_theory.specs.declared.Place.the-variants as P
@@ -22,7 +25,7 @@ use Rattle.scenario_theory.proofs.RowLaws.{idriss-row, boore-atkinson-row, idri
 use Rattle.scenario_theory.proofs.RowLaws.{boore-atkinson-printed}
 use Rattle.scenario_theory.proofs.RefusalLaws.{Within, within-idriss, within-boore-atkinson}
 use Rattle.scenario_theory.proofs.RowLaws.{idriss-between, boore-atkinson-between, at-row, between-of}
-use Rattle.engine_theory.specs.Steps.{TakenBy, firstIn, lastIn}
+use Rattle.engine_theory.specs.Steps.{TakenBy, stepAround, firstIn, lastIn}
 
 module _ (model period : ℕ) where
   pub first-place : model ≡ 1 → placeBy idriss idrissRow period ≡ placeOf model period
@@ -64,7 +67,7 @@ boore-atkinson-tabled = record {
 -- of a period without a row
 pub record OnStep (m : Limits) (row : ℕ → ℕ) (list : List ℕ) (T : ℕ) : Type 0 where
   pub rows : BetweenRows m row T
-  pub step : StepAt list (row (neighbourBelow m T)) (stepOf T (neighbourBelow m T) (neighbourAbove m T))
+  pub step : StepAt list (row (neighbourBelow m T)) (stepAround m T)
   pub last : row (neighbourBelow m T) + 1 < rowCount
   pub domain : LnDomain T (neighbourBelow m T)
 
@@ -116,6 +119,18 @@ module _ {n : ℕ} {m : Limits} {row : ℕ → ℕ} {list : List ℕ} (tabled : 
     pub last-taken : (p : Place) → TakenBy n m row s p → lastIn p < rowCount
     last-taken (P.Row k) t = let r = taken-at-row t in rw (r .1) (tabled .few _ (r .0))
     last-taken (P.Between k) t = let r = taken-on-step t in rw (r .row-is) (r .on-step .last)
+
+-- what the code makes of the rows of such a scenario
+module _ {m : Limits} {row : ℕ → ℕ} {list : List ℕ} {s : Scenario} {k : ℕ} (t : TakenOnStep m row list s k)
+    {n : Neighbours} (rows : n ≡ neighboursOf (getD list k 0) (getD list (k + 1) 0)) where
+  neighbours-are : n ≡ neighboursOf (neighbourBelow m (s .period)) (neighbourAbove m (s .period))
+  neighbours-are = let step = t .on-step .step in rows ∙ rw (t .row-is, ← step .lower, ← step .upper) refl
+
+  pub step-domain : LnDomain (s .period) (n .lower) × (n .whole ≡ lnOf (n .upper) (n .lower))
+  step-domain = rw neighbours-are (t .on-step .domain, refl)
+
+  pub step-is : {r : Step} → r ≡ stepOf (s .period) (n .lower) (n .upper) → r ≡ stepAround m (s .period)
+  step-is e = e ∙ rw neighbours-are refl
 
 -- the row PGA is no neighbour
 pub not-first : {T : ℕ} → BetweenRows booreAtkinson booreAtkinsonRow T →

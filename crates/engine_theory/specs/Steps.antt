@@ -1,12 +1,15 @@
 -- What private functions of the engine ask of each other; no promise to callers rests on reading it.
 use mathlib.Core.Path.{_≡_}
 use Prim.Native.Nat.{ℕ, _+_}
+use Rattle.interpolation_theory.specs.declared.Step.{Step}
 use Rattle.interpolation_theory.specs.declared.TwoRows.{TwoRows}
 use Rattle.interpolation_theory.specs.Evaluation.{twoRowsOf}
+use Rattle.interpolation_theory.specs.Steps.{stepOf}
 use Rattle.scenario_theory.specs.declared.Scenario.{Scenario}
 use Rattle.scenario_theory.specs.declared.Place.{Place}
 use Rattle.scenario_theory.specs.declared.Place.the-variants as P
 use Rattle.scenario_theory.specs.Refusal.{Limits, refusalOf}
+use Rattle.scenario_theory.specs.Neighbours.{neighbourBelow, neighbourAbove}
 use Rattle.scenario_theory.specs.Rows.{placeBy}
 use Rattle.idriss_theory.specs.Tables.{takesTable3}
 use Rattle.idriss_theory.specs.Rows.{rowAt as idrissRowAt}
@@ -19,6 +22,10 @@ pub record TakenBy (number : ℕ) (m : Limits) (row : ℕ → ℕ) (s : Scenario
   pub model : s .model ≡ number
   pub accepted : refusalOf s ≡ 0
   pub place : p ≡ placeBy m row (s .period)
+
+-- the step from the row below a period to the row above it
+abbrev pub stepAround : Limits → ℕ → Step
+stepAround m T = stepOf T (neighbourBelow m T) (neighbourAbove m T)
 
 -- the rows of a place, from the first to the last
 abbrev pub firstIn : Place → ℕ

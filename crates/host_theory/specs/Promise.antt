@@ -48,7 +48,7 @@ pub record HostWritingPromise (x : Scenario) (lent : List ℕ) (r : HostWriting)
   pub written : writeRefusal x lent ≡ 0 → r .length ≡ length (recordOf x)
   pub zero : (writeRefusal x lent ≡ 0 → ⊥) → r .length ≡ 0
 
--- the first of the checks 1 and 6 that a model and a period fail, 0 where they fail neither
+-- the first of the checks 1 and 6 ('What is turned away') that a model and a period fail, 0 where they fail neither
 abbrev pub rowsRefusal : ℕ → ℕ → ℕ
 rowsRefusal model T = 1 when not (eqb model 1 || eqb model 2) otherwise 6 when beyondPeriods T
 

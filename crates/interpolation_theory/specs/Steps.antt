@@ -7,9 +7,11 @@ use Rattle.logarithm_theory.specs.Evaluation.{lnOf}
 use Rattle.interpolation_theory.specs.declared.Neighbours.{Neighbours}
 use Rattle.interpolation_theory.specs.declared.Step.{Step}
 
+-- two rows, of the periods T1 and T2
 abbrev pub neighboursOf : ℕ → ℕ → Neighbours
 neighboursOf T1 T2 = record { lower = T1; upper = T2; whole = lnOf T2 T1 }
 
+-- and a period T between them
 abbrev pub stepOf : ℕ → ℕ → ℕ → Step
 stepOf T T1 T2 = record { period = T; lower = T1; upper = T2; part = lnOf T T1; whole = lnOf T2 T1 }
 

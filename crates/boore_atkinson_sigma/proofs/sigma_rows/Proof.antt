@@ -16,7 +16,7 @@ returns c =
     let k = first .before .args .k in
     let here : k + 1 - 1 ≡ k = omega arith in
     rw (c .exact-pair2 .ensures, second .before .exact-pair .ensures, lt-ltb k (k + 1) (omega arith), here)
-    (rw (second .sigma-by-row2 .ensures .0, first .sigma-by-row .ensures .0) refl)
+    (rw (← second .sigma-by-row2 .ensures .0, ← first .sigma-by-row .ensures .0) refl)
 
 pub sigma-rows-spec : {M : Type 1} → statement M
 sigma-rows-spec =
