@@ -1,22 +1,25 @@
-// The checks 1 to 6 of a scenario.
+// The checks of a scenario: 9 for the distance, 13 and 1 to 6.
 ghost use mathlib.Core.Path.{_≡_};
 ghost use mathlib.Core.Bool.{not};
 ghost use mathlib.Core.List.{[], _∷_};
-ghost use Prim.Native.Nat.{_<_};
-ghost use lib.ListN.{getD};
 ghost use Rattle.toolbox_theory.specs.Lists.{among};
+ghost use Rattle.scenario_theory.specs.declared.Rupture.the-variants as R;
+ghost use Rattle.scenario_theory.specs.declared.Projection.the-variants as P;
+ghost use Rattle.scenario_theory.specs.declared.Basis.the-variants as B;
 ghost use Rattle.scenario_theory.specs.Checks.{_to_, beyond};
+ghost use Rattle.scenario_theory.specs.Distances.{ruptureNumber, projectionNumber, exceeds};
 ghost use Rattle.scenario_theory.specs.Refusal.{idriss, booreAtkinson, refusalOf};
-ghost use Rattle.scenario_theory.specs.Rows.{rowCount, idrissRow, booreAtkinsonRow, rowList, periodsAt, InTable};
-ghost use Rattle.scenario_theory.specs.Rows.{scenarioWith, checkBy, checkOf};
-ghost use Rattle.scenario_theory.specs.Neighbours.{rowPeriodsOf};
-use scenario_rows::boore_atkinson_period;
+ghost use Rattle.scenario_theory.specs.Rows.{idrissRow, booreAtkinsonRow};
+ghost use Rattle.scenario_theory.specs.Accepted.{scenarioWith, checkBy, basedOn, checkOf};
 use scenario_rows::boore_atkinson_place;
-use scenario_rows::idriss_period;
 use scenario_rows::idriss_place;
+pub use scenario_theory::Basis;
 pub use scenario_theory::Check;
-use scenario_theory::Place;
-pub use scenario_theory::RowPeriods;
+use scenario_theory::PlaceCheck;
+pub use scenario_theory::Projection;
+pub use scenario_theory::ProjectionDistance;
+pub use scenario_theory::Rupture;
+pub use scenario_theory::RuptureDistance;
 pub use scenario_theory::Scenario;
 
 fn outside(low: u16, high: u16, x: u16) -> bool
@@ -32,119 +35,156 @@ fn unknown(code: u8, other: u8) -> bool
     3 < code && code != other
 }
 
-fn idriss_check(magnitude: u16, distance: u16, velocity: u16, mechanism: u8, period: u16) -> Check
-    ensures { λ r. ⌜ r ≡ checkBy idriss idrissRow (scenarioWith 1 magnitude distance velocity mechanism period) ⌝ }
+// The checks 2 to 6 by Idriss's limits.
+fn idriss_check(
+    magnitude: u16,
+    distance: RuptureDistance,
+    velocity: u16,
+    mechanism: u8,
+    period: u16,
+) -> PlaceCheck
+    ensures { λ r. ⌜ r ≡ checkBy idriss idrissRow
+        (scenarioWith 1 magnitude (R.At distance) velocity mechanism period P.Absent) ⌝ }
 {
     if outside(450, 790, magnitude) {
-        return Check::Refused(2);
+        return PlaceCheck::Refused(2);
     }
-    if outside(0, 17_500, distance) {
-        return Check::Refused(3);
+    if outside(0, 17_500, distance.0) {
+        return PlaceCheck::Refused(3);
     }
     if outside(4_500, 20_000, velocity) {
-        return Check::Refused(4);
+        return PlaceCheck::Refused(4);
     }
     if unknown(mechanism, 4) {
-        return Check::Refused(5);
+        return PlaceCheck::Refused(5);
     }
     idriss_place(period)
 }
 
+// And those by Boore and Atkinson's.
 fn boore_atkinson_check(
     magnitude: u16,
-    distance: u16,
+    distance: ProjectionDistance,
     velocity: u16,
     mechanism: u8,
     period: u16,
-) -> Check
+) -> PlaceCheck
     ensures { λ r. ⌜ r ≡ checkBy booreAtkinson booreAtkinsonRow
-        (scenarioWith 2 magnitude distance velocity mechanism period) ⌝ }
+        (scenarioWith 2 magnitude R.Absent velocity mechanism period (P.At distance)) ⌝ }
 {
     if outside(500, 800, magnitude) {
-        return Check::Refused(2);
+        return PlaceCheck::Refused(2);
     }
-    if outside(0, 19_999, distance) {
-        return Check::Refused(3);
+    if outside(0, 19_999, distance.0) {
+        return PlaceCheck::Refused(3);
     }
     if outside(1_800, 13_000, velocity) {
-        return Check::Refused(4);
+        return PlaceCheck::Refused(4);
     }
     if unknown(mechanism, 9) {
-        return Check::Refused(5);
+        return PlaceCheck::Refused(5);
     }
     boore_atkinson_place(period)
 }
 
-// The checks 1 to 6 of the scenario that has these fields: the place of its period, or the number of the first that it
-// fails. The fields pass in registers, as a struct would be stored and read back.
-pub fn check(
-    model: u8,
-    magnitude: u16,
-    distance: u16,
-    velocity: u16,
-    mechanism: u8,
-    period: u16,
-) -> Check
-    ensures { λ r. ⌜ r ≡ checkOf (scenarioWith model magnitude distance velocity mechanism period) ⌝ }
+// What an answer by Idriss rests on, with the place that his checks have looked up.
+fn idriss_basis(distance: RuptureDistance, c: PlaceCheck) -> Check
+    ensures { λ r. ⌜ r ≡ basedOn (B.Idriss distance) c ⌝ }
 {
-    match model {
-        1 => idriss_check(magnitude, distance, velocity, mechanism, period),
-        2 => boore_atkinson_check(magnitude, distance, velocity, mechanism, period),
-        _ => Check::Refused(1),
+    match c {
+        PlaceCheck::Accepted(place) => Check::Accepted(Basis::Idriss(distance, place)),
+        PlaceCheck::Refused(k) => Check::Refused(k),
     }
 }
 
-// The first of the checks 1 to 6 that s fails, 0 where it fails none.
+// And one by Boore and Atkinson.
+fn boore_atkinson_basis(distance: ProjectionDistance, c: PlaceCheck) -> Check
+    ensures { λ r. ⌜ r ≡ basedOn (B.BooreAtkinson distance) c ⌝ }
+{
+    match c {
+        PlaceCheck::Accepted(place) => Check::Accepted(Basis::BooreAtkinson(distance, place)),
+        PlaceCheck::Refused(k) => Check::Refused(k),
+    }
+}
+
+// Whether both distances stand and the projection distance exceeds the rupture distance.
+fn projection_exceeds(rupture: Rupture, projection: Projection) -> bool
+    ensures { λ r. ⌜ r ≡ exceeds (projectionNumber projection) (ruptureNumber rupture) ⌝ }
+{
+    match projection {
+        Projection::Absent => false,
+        Projection::At(p) => match rupture {
+            Rupture::Absent => false,
+            Rupture::At(r) => r.0 < p.0,
+        },
+    }
+}
+
+// The checks 9 for the distance, 13 and 1 to 6 of the scenario that has these fields: what the answer rests on, or the
+// number of the first that it fails. The fields pass in registers, as a struct would be stored and read back.
+pub fn check(
+    model: u8,
+    magnitude: u16,
+    rupture: Rupture,
+    velocity: u16,
+    mechanism: u8,
+    period: u16,
+    projection: Projection,
+) -> Check
+    ensures { λ r. ⌜ r ≡ checkOf
+        (scenarioWith model magnitude rupture velocity mechanism period projection) ⌝ }
+{
+    let exceeds = projection_exceeds(rupture, projection);
+    match model {
+        1 => match rupture {
+            Rupture::Absent => Check::Refused(9),
+            Rupture::At(distance) => {
+                if exceeds {
+                    return Check::Refused(13);
+                }
+                idriss_basis(
+                    distance,
+                    idriss_check(magnitude, distance, velocity, mechanism, period),
+                )
+            }
+        },
+        2 => match projection {
+            Projection::Absent => Check::Refused(9),
+            Projection::At(distance) => {
+                if exceeds {
+                    return Check::Refused(13);
+                }
+                boore_atkinson_basis(
+                    distance,
+                    boore_atkinson_check(magnitude, distance, velocity, mechanism, period),
+                )
+            }
+        },
+        _ => {
+            if exceeds {
+                return Check::Refused(13);
+            }
+            Check::Refused(1)
+        }
+    }
+}
+
+// The first of the checks 9 for the distance, 13 and 1 to 6 that s fails, 0 where it fails none.
 pub fn refusal(s: Scenario) -> u8
     ensures { λ r. ⌜ r ≡ refusalOf s ⌝ }
 {
+    let rupture = s.rupture;
+    let projection = s.projection;
     match check(
         s.model,
         s.magnitude,
-        s.distance,
+        rupture,
         s.velocity,
         s.mechanism,
         s.period,
+        projection,
     ) {
         Check::Accepted(_) => 0,
         Check::Refused(k) => k,
     }
-}
-
-// The period of row k in the tables of Idriss for model 1, of Boore-Atkinson for any other.
-fn period_of_row(model: u8, k: usize) -> u16
-    requires { ⌜ k < rowCount ⌝ }
-    ensures { λ r. ⌜ r ≡ getD (rowList model) k 0 ⌝ }
-{
-    if model == 1 {
-        return idriss_period(k);
-    }
-    boore_atkinson_period(k)
-}
-
-// The periods of the rows of a place in those tables.
-fn periods_at(model: u8, place: Check) -> RowPeriods
-    requires { ⌜ InTable place ⌝ }
-    ensures { λ r. ⌜ r ≡ periodsAt (rowList model) place ⌝ }
-{
-    match place {
-        Check::Accepted(p) => match p {
-            Place::Row(k) => {
-                let t = period_of_row(model, k);
-                RowPeriods::Rows(t, t)
-            }
-            Place::Between(k) => {
-                RowPeriods::Rows(period_of_row(model, k), period_of_row(model, k + 1))
-            }
-        },
-        Check::Refused(k) => RowPeriods::Refused(k),
-    }
-}
-
-// The periods of the two rows that a median at a period rests on: equal where the period has a row of its own, else
-// its neighbours in the tables of the model. The checks look them up, of a scenario that is accepted but for these two.
-pub fn row_periods(model: u8, period: u16) -> RowPeriods
-    ensures { λ r. ⌜ r ≡ rowPeriodsOf model period ⌝ }
-{
-    periods_at(model, check(model, 700, 0, 7_600, 0, period))
 }

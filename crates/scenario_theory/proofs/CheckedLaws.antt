@@ -1,31 +1,36 @@
--- The checks of a program, one by one, and the place of the period that they look up.
-use mathlib.Core.Path.{_≡_, refl, sym, subst, _∙_}
-use mathlib.Core.Bool.{Bool, true, false, not, cond}
-use mathlib.Core.List.{_∷_}
+-- The checks of a program, one by one, and what they have shown where they pass.
+use mathlib.Core.Path.{_≡_, refl, sym, ap, subst, _∙_}
+use mathlib.Core.Bool.{Bool, true, false, not}
 use mathlib.Core.Logic.{⊎-elim}
+use mathlib.Core.Option.{Option, none, some}
 use Prim.Native.Nat.{ℕ}
 use native.Mathlib.Omega.{arith}
-use lib.Dec.{eqb}
 use Rattle.toolbox_theory.specs.Lists.{among}
 use Rattle.scenario_theory.specs.declared.Scenario.{Scenario}
-use Rattle.scenario_theory.specs.declared.Check.{Check}
-use Rattle.scenario_theory.specs.declared.Check.the-variants as C
-use Rattle.scenario_theory.specs.declared.RowPeriods.the-variants as R
-use Rattle.scenario_theory.specs.declared.Place.{Place}
+use Rattle.scenario_theory.specs.declared.RuptureDistance.{RuptureDistance}
+use Rattle.scenario_theory.specs.declared.ProjectionDistance.{ProjectionDistance}
+use Rattle.scenario_theory.specs.declared.Rupture.{Rupture}
+use Rattle.scenario_theory.specs.declared.Rupture.the-variants as R
+use Rattle.scenario_theory.specs.declared.Projection.{Projection}
+use Rattle.scenario_theory.specs.declared.Projection.the-variants as P
+use Rattle.scenario_theory.specs.declared.PlaceCheck.{PlaceCheck}
+use Rattle.scenario_theory.specs.declared.PlaceCheck.the-variants as C
+use Rattle.scenario_theory.specs.declared.Basis.{Basis}
+use Rattle.scenario_theory.specs.declared.Basis.the-variants as B
+use Rattle.scenario_theory.specs.declared.Check.the-variants as K
 use Rattle.scenario_theory.specs.Checks.{beyond, _when_, unlessRefused}
-use Rattle.scenario_theory.specs.Refusal.{Limits, idriss, booreAtkinson, beyondPeriods, refusalBy, refusalOf}
-use Rattle.scenario_theory.specs.Neighbours.{idrissPrinted, rowPeriodsBy, rowPeriodsOf}
-use Rattle.scenario_theory.specs.Rows.{Looked, placeBy, placeOf, checkBy, checkOf, idrissRow, booreAtkinsonRow}
-use Rattle.scenario_theory.specs.Rows.{idrissPlace, booreAtkinsonPlace, rowList, periodsAt, InTable}
-use Rattle.scenario_theory.specs.Rows.{plainScenario}
-use Rattle.scenario_theory.proofs.CheckLaws.{unless-is}
+use Rattle.scenario_theory.specs.Distances.{ruptureNumber, projectionNumber, given, exceeds}
+use Rattle.scenario_theory.specs.Refusal.{Limits, idriss, booreAtkinson, beyondPeriods, refusalBy}
+use Rattle.scenario_theory.specs.Refusal.{refusalByModel, lacksDistance, projectionExceeds, refusalOf}
+use Rattle.scenario_theory.specs.Rows.{placeBy, idrissRow, booreAtkinsonRow, idrissPlace, booreAtkinsonPlace}
+use Rattle.scenario_theory.specs.Accepted.{scenarioWith, checkBy, basisOf, basedOn, checkOf, RestsOn}
+use Rattle.scenario_theory.proofs.CheckLaws.{unless-is, of-unless}
+use Rattle.scenario_theory.proofs.RefusalLaws.{WithinBy, of-model}
 use Rattle.scenario_theory.proofs.RowLaws.{placed, idriss-listed, boore-atkinson-listed}
-use Rattle.scenario_theory.proofs.PeriodLaws.{idriss-in-table, boore-atkinson-in-table, idriss-periods}
-use Rattle.scenario_theory.proofs.PeriodLaws.{boore-atkinson-periods}
 
 -- ---- the checks of a program are those of a model's column, one by one
 
-with-number : (b : Bool) (c : Check) →
+with-number : (b : Bool) (c : PlaceCheck) →
     unlessRefused (6 when b) c (C.Refused 6) ≡ unlessRefused (6 when b) c (C.Refused (6 when b))
 with-number true c = refl
 with-number false c = refl
@@ -36,11 +41,11 @@ module _ (m : Limits) (row : ℕ → ℕ) (s : Scenario) where
   fails-2 e = rw e refl
 
   module _ (two : beyond (m .magnitude) (s .magnitude) ≡ false) where
-    pub fails-3 : beyond (m .distance) (s .distance) ≡ true → C.Refused 3 ≡ checkBy m row s
+    pub fails-3 : given (m .reads s) (beyond (m .distance)) false ≡ true → C.Refused 3 ≡ checkBy m row s
     unfolding checkBy refusalBy
     fails-3 e = rw (two, e) refl
 
-    module _ (three : beyond (m .distance) (s .distance) ≡ false) where
+    module _ (three : given (m .reads s) (beyond (m .distance)) false ≡ false) where
       pub fails-4 : beyond (m .velocity) (s .velocity) ≡ true → C.Refused 4 ≡ checkBy m row s
       unfolding checkBy refusalBy
       fails-4 e = rw (two, three, e) refl
@@ -51,7 +56,7 @@ module _ (m : Limits) (row : ℕ → ℕ) (s : Scenario) where
         fails-5 e = rw (two, three, four, e) refl
 
         -- and the last, the period's
-        last-check : {r : Check} → not (among (m .mechanisms) (s .mechanism)) ≡ false →
+        last-check : {r : PlaceCheck} → not (among (m .mechanisms) (s .mechanism)) ≡ false →
             r ≡ unlessRefused (6 when beyondPeriods (s .period)) (C.Accepted (placeBy m row (s .period)))
             (C.Refused 6) →
             r ≡ checkBy m row s
@@ -61,71 +66,119 @@ module _ (m : Limits) (row : ℕ → ℕ) (s : Scenario) where
 -- none of those before the period's applies
 pub record NoneBefore (m : Limits) (s : Scenario) : Type 0 where
   pub two : beyond (m .magnitude) (s .magnitude) ≡ false
-  pub three : beyond (m .distance) (s .distance) ≡ false
+  pub three : given (m .reads s) (beyond (m .distance)) false ≡ false
   pub four : beyond (m .velocity) (s .velocity) ≡ false
   pub five : not (among (m .mechanisms) (s .mechanism)) ≡ false
 
-pub idriss-last : {s : Scenario} {r : Check} → NoneBefore idriss s → r ≡ idrissPlace (s .period) →
+pub idriss-last : {s : Scenario} {r : PlaceCheck} → NoneBefore idriss s → r ≡ idrissPlace (s .period) →
     r ≡ checkBy idriss idrissRow s
 unfolding idrissPlace
 idriss-last {s} n h =
     last-check idriss idrissRow s (n .two) (n .three) (n .four) (n .five)
     (h ∙ placed 0 idriss idrissRow idriss-listed (s .period))
 
-pub boore-atkinson-last : {s : Scenario} {r : Check} → NoneBefore booreAtkinson s → r ≡ booreAtkinsonPlace (s .period) →
-    r ≡ checkBy booreAtkinson booreAtkinsonRow s
+pub boore-atkinson-last : {s : Scenario} {r : PlaceCheck} → NoneBefore booreAtkinson s →
+    r ≡ booreAtkinsonPlace (s .period) → r ≡ checkBy booreAtkinson booreAtkinsonRow s
 unfolding booreAtkinsonPlace
 boore-atkinson-last {s} n h =
     last-check booreAtkinson booreAtkinsonRow s (n .two) (n .three) (n .four) (n .five)
     (h ∙ placed 1 booreAtkinson booreAtkinsonRow boore-atkinson-listed (s .period))
 
--- ---- the periods of the rows, as the checks of a scenario look them up
+-- ---- all checks
 
-module _ (model t : ℕ) where
-  abbrev plain : Scenario
-  plain = plainScenario model t
+module _ (M Vs mechanism T : ℕ) where
+  module _ (d : RuptureDistance) (projection : Projection) where
+    pub idriss-exceeded : exceeds (projectionNumber projection) (some (d .0)) ≡ true →
+        K.Refused 13 ≡ checkOf (scenarioWith 1 M (R.At d) Vs mechanism T projection)
+    unfolding checkOf refusalOf lacksDistance projectionExceeds
+    idriss-exceeded e = rw e refl
 
-  -- whether the model is 1, and whether it is 2
-  by-model : (first second : Bool) →
-      let number = cond first (refusalBy idriss plain) (cond second (refusalBy booreAtkinson plain) 1) in
-      let place = cond first (placeBy idriss idrissRow t) (placeBy booreAtkinson booreAtkinsonRow t) in
-      let check = unlessRefused number (C.Accepted place) (C.Refused number) in
-      InTable check ×
-      (periodsAt (cond first (idriss .periods) (0 ∷ booreAtkinson .periods)) check ≡
-      cond first (rowPeriodsBy idriss idrissPrinted t)
-      (cond second (rowPeriodsBy booreAtkinson (λ t. t) t) (R.Refused 1)))
-  unfolding checkBy
-  by-model true second =
-      subst (λ c. InTable c × (periodsAt (idriss .periods) c ≡ rowPeriodsBy idriss idrissPrinted t))
-      (idriss-last {s = plain} (record { two = refl; three = refl; four = refl; five = refl }) refl)
-      (idriss-in-table t, idriss-periods t)
-  by-model false true =
-      subst (λ c. InTable c × (periodsAt (0 ∷ booreAtkinson .periods) c ≡ rowPeriodsBy booreAtkinson (λ t. t) t))
-      (boore-atkinson-last {s = plain} (record { two = refl; three = refl; four = refl; five = refl }) refl)
-      (boore-atkinson-in-table t, boore-atkinson-periods t)
-  by-model false false = (tt, refl)
+    pub idriss-checked : {c : PlaceCheck} → exceeds (projectionNumber projection) (some (d .0)) ≡ false →
+        c ≡ checkBy idriss idrissRow (scenarioWith 1 M (R.At d) Vs mechanism T P.Absent) →
+        basedOn (B.Idriss d) c ≡ checkOf (scenarioWith 1 M (R.At d) Vs mechanism T projection)
+    unfolding checkOf refusalOf lacksDistance projectionExceeds refusalByModel basisOf checkBy refusalBy
+    idriss-checked e h =
+        let s = scenarioWith 1 M (R.At d) Vs mechanism T projection in
+        rw (e, h) (of-unless (basedOn (B.Idriss d)) (refusalBy idriss s) (C.Accepted (placeBy idriss idrissRow T)) _)
 
-  pub looks-up : InTable (checkOf (plainScenario model t)) ×
-      (periodsAt (rowList model) (checkOf (plainScenario model t)) ≡ rowPeriodsOf model t)
-  unfolding checkOf placeOf refusalOf rowPeriodsOf
-  looks-up = by-model (eqb model 1) (eqb model 2)
+  module _ (d : ProjectionDistance) (rupture : Rupture) where
+    pub boore-atkinson-exceeded : exceeds (some (d .0)) (ruptureNumber rupture) ≡ true →
+        K.Refused 13 ≡ checkOf (scenarioWith 2 M rupture Vs mechanism T (P.At d))
+    unfolding checkOf refusalOf lacksDistance projectionExceeds
+    boore-atkinson-exceeded e = rw e refl
 
--- ---- what a check has shown
+    pub boore-atkinson-checked : {c : PlaceCheck} → exceeds (some (d .0)) (ruptureNumber rupture) ≡ false →
+        c ≡ checkBy booreAtkinson booreAtkinsonRow (scenarioWith 2 M R.Absent Vs mechanism T (P.At d)) →
+        basedOn (B.BooreAtkinson d) c ≡ checkOf (scenarioWith 2 M rupture Vs mechanism T (P.At d))
+    unfolding checkOf refusalOf lacksDistance projectionExceeds refusalByModel basisOf checkBy refusalBy
+    boore-atkinson-checked e h =
+        let s = scenarioWith 2 M rupture Vs mechanism T (P.At d) in
+        let place = C.Accepted (placeBy booreAtkinson booreAtkinsonRow T) in
+        rw (e, h) (of-unless (basedOn (B.BooreAtkinson d)) (refusalBy booreAtkinson s) place _)
 
-pub passed : (s : Scenario) {p : Place} → checkOf s ≡ C.Accepted p → Looked s p
-unfolding checkOf
-passed s e =
-    ⊎-elim (λ p. record { accepted = p .0; place = cc }) (λ p. record { accepted = cc; place = cc })
-    (unless-is (refusalOf s) e)
+-- ---- what they have shown
 
--- the number of a check that fails is not 0
-pub record Failed (s : Scenario) (k : ℕ) : Type 0 where
-  pub number : k ≡ refusalOf s
-  pub some : k ≡ 0 → ⊥
+none-is-not : {x : ℕ} → _≡_ {A = Option ℕ} none (some x) → ⊥
+none-is-not e = let z : _≡_ {A = ℕ} 0 1 = cc in omega arith
 
-pub failed : (s : Scenario) {k : ℕ} → checkOf s ≡ C.Refused k → Failed s k
-unfolding checkOf
-failed s {k} e =
-    ⊎-elim (λ p. let z : _≡_ {A = ℕ} 0 1 = cc in absurd (omega arith))
-    (λ p. let same : k ≡ refusalOf s = cc in record { number = same; some = λ z. p .0 (sym same ∙ z) })
-    (unless-is (refusalOf s) e)
+some-is : {x y : ℕ} → _≡_ {A = Option ℕ} (some x) (some y) → x ≡ y
+some-is e = cc
+
+module _ (s : Scenario) where
+  -- what an answer to a scenario that is accepted rests on
+  record Based : Type 0 where
+    rests : Basis
+    is : basisOf s ≡ K.Accepted rests
+    known : RestsOn s rests
+
+  by-rupture : refusalOf s ≡ 0 → s .model ≡ 1 → WithinBy idriss s → (d : Rupture) → s .rupture ≡ d → Based
+  unfolding basisOf
+  by-rupture a m w R.Absent e = absurd (none-is-not (sym (ap ruptureNumber e) ∙ w .reads))
+  by-rupture a m w (R.At d) e =
+      record {
+        rests = B.Idriss d (placeBy idriss idrissRow (s .period));
+        is = rw (m, e) refl;
+        known = record {
+          accepted = a;
+          basis = (m, ap ruptureNumber e);
+          placed = record { within = rw (some-is (sym (ap ruptureNumber e) ∙ w .reads)) (w .within); place = refl };
+        };
+      }
+
+  by-projection : refusalOf s ≡ 0 → s .model ≡ 2 → WithinBy booreAtkinson s → (d : Projection) →
+      s .projection ≡ d → Based
+  unfolding basisOf
+  by-projection a m w P.Absent e = absurd (none-is-not (sym (ap projectionNumber e) ∙ w .reads))
+  by-projection a m w (P.At d) e =
+      record {
+        rests = B.BooreAtkinson d (placeBy booreAtkinson booreAtkinsonRow (s .period));
+        is = rw (m, e) refl;
+        known = record {
+          accepted = a;
+          basis = (m, ap projectionNumber e);
+          placed = record { within = rw (some-is (sym (ap projectionNumber e) ∙ w .reads)) (w .within); place = refl };
+        };
+      }
+
+  based : refusalOf s ≡ 0 → Based
+  based a =
+      ⊎-elim (λ p. by-rupture a (p .0) (p .1) (s .rupture) refl)
+      (λ p. by-projection a (p .0) (p .1) (s .projection) refl) (of-model s a)
+
+  pub passed : {b : Basis} → checkOf s ≡ K.Accepted b → RestsOn s b
+  unfolding checkOf
+  passed {b} e =
+      ⊎-elim (λ p. let d = based (p .0) in let same : d .rests ≡ b = cc in subst (RestsOn s) same (d .known))
+      (λ p. let z : _≡_ {A = ℕ} 0 1 = cc in absurd (omega arith)) (unless-is (refusalOf s) e)
+
+  -- the number of a check that fails is not 0
+  pub record Failed (k : ℕ) : Type 0 where
+    pub number : k ≡ refusalOf s
+    pub some : k ≡ 0 → ⊥
+
+  pub failed : {k : ℕ} → checkOf s ≡ K.Refused k → Failed k
+  unfolding checkOf
+  failed {k} e =
+      ⊎-elim (λ p. let d = based (p .0) in let z : _≡_ {A = ℕ} 0 1 = cc in absurd (omega arith))
+      (λ p. let same : k ≡ refusalOf s = cc in record { number = same; some = λ z. p .0 (sym same ∙ z) })
+      (unless-is (refusalOf s) e)

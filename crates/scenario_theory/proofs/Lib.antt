@@ -1,4 +1,5 @@
 pub mod CheckLaws
+pub mod DistanceLaws
 pub mod RefusalLaws
 pub mod RowLaws
 pub mod PeriodLaws

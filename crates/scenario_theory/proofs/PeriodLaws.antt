@@ -8,8 +8,8 @@ use lib.Dec.{eqb}
 use lib.ListN.{getD}
 use Rattle.toolbox_theory.specs.Lists.{among}
 use Rattle.toolbox_theory.proofs.ListLaws.{or-right}
-use Rattle.scenario_theory.specs.declared.Check.{Check}
-use Rattle.scenario_theory.specs.declared.Check.the-variants as C
+use Rattle.scenario_theory.specs.declared.PlaceCheck.{PlaceCheck}
+use Rattle.scenario_theory.specs.declared.PlaceCheck.the-variants as C
 use Rattle.scenario_theory.specs.declared.Place.the-variants as P
 use Rattle.scenario_theory.specs.Checks.{_when_, unlessRefused}
 use Rattle.scenario_theory.specs.Refusal.{Limits, idriss, booreAtkinson, beyondPeriods}
@@ -27,7 +27,7 @@ module _ (first : ℕ) (m : Limits) (row : ℕ → ℕ) (l : Listed first m row)
   tabled-at t e = or-right (eqb t 0) e
 
   -- what holds of the place by the definitions holds of that by counting
-  by-place : (K : Check → Type 0) → (beyondPeriods t ≡ true → K (C.Refused 6)) →
+  by-place : (K : PlaceCheck → Type 0) → (beyondPeriods t ≡ true → K (C.Refused 6)) →
       (hasRow m t ≡ true → beyondPeriods t ≡ false → K (C.Accepted (P.Row (row t)))) →
       (BetweenRows m row t → hasRow m t ≡ false → beyondPeriods t ≡ false →
       K (C.Accepted (P.Between (row (neighbourBelow m t))))) → K (place first m row t)

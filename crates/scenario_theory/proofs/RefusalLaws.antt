@@ -1,7 +1,8 @@
 -- What a scenario that is not refused is like.
 use mathlib.Core.Path.{_≡_, refl}
-use mathlib.Core.Bool.{Bool, true, false, false≢true, not, _&&_}
+use mathlib.Core.Bool.{Bool, true, false, false≢true, true≢false, not, cond, _&&_, _||_}
 use mathlib.Core.Logic.{_⊎_, inl, inr, ⊎-elim}
+use mathlib.Core.Option.{Option, none, some}
 use Prim.Native.Nat.{ℕ, _≤_, _<_}
 use native.Mathlib.Omega.{arith}
 use borrow.Author.Needs.{needs}
@@ -12,21 +13,13 @@ use Rattle.toolbox_theory.proofs.Tests.{by-test}
 use Rattle.toolbox_theory.proofs.ListLaws.{neither, or-cases, upTo, at-most}
 use Rattle.scenario_theory.specs.declared.Scenario.{Scenario}
 use Rattle.scenario_theory.specs.Checks.{Range, beyond, _when_}
+use Rattle.scenario_theory.specs.Distances.{ruptureNumber, projectionNumber, isAbsent, given, exceeds}
 use Rattle.scenario_theory.specs.Refusal.{Limits, idriss, booreAtkinson, answeredPeriods, beyondPeriods}
-use Rattle.scenario_theory.specs.Refusal.{refusalBy}
-use Rattle.scenario_theory.specs.Refusal.{refusalOf}
+use Rattle.scenario_theory.specs.Refusal.{refusalBy, refusalByModel, lacksDistance, projectionExceeds, refusalOf}
+use Rattle.scenario_theory.specs.Accepted.{Within}
 use Rattle.scenario_theory.proofs.CheckLaws.{none-of, not-when}
 
--- ---- a scenario that is not refused is within the limits of its model
-
-pub record Within (m : Limits) (s : Scenario) : Type 0 where
-  pub magnitude-low : m .magnitude .low ≤ s .magnitude
-  pub magnitude-high : s .magnitude ≤ m .magnitude .high
-  pub distance-high : s .distance ≤ m .distance .high
-  pub velocity-low : m .velocity .low ≤ s .velocity
-  pub velocity-high : s .velocity ≤ m .velocity .high
-  pub mechanism : among (m .mechanisms) (s .mechanism) ≡ true
-  pub period : beyondPeriods (s .period) ≡ false
+-- ---- a scenario that is not refused has the distance that its model reads, and is within the model's limits
 
 not-beyond : (r : Range) (x : ℕ) → beyond r x ≡ false → (r .low ≤ x) × (x ≤ r .high)
 not-beyond r x e = let p = neither (ltb x (r .low)) (ltb (r .high) x) e in omega (arith, ltb-false)
@@ -56,56 +49,105 @@ module _ (t : ℕ) where
   unfolding beyondPeriods
   not-answered e = beyond-is answeredPeriods t (other-than-zero (eqb t 0) (beyond answeredPeriods t) e)
 
-pub within : (m : Limits) (s : Scenario) → refusalBy m s ≡ 0 → Within m s
+-- s has a distance that the model reads, and its fields are within the model's limits
+pub record WithinBy (m : Limits) (s : Scenario) : Type 0 where
+  pub distance : ℕ
+  pub reads : m .reads s ≡ some distance
+  pub within : Within m (s .magnitude) distance (s .velocity) (s .mechanism) (s .period)
+
+stands : (o : Option ℕ) → isAbsent o ≡ false → (x : ℕ) × (o ≡ some x)
+stands none e = absurd (true≢false e)
+stands (some x) e = (x, refl)
+
+pub within-at : (m : Limits) (s : Scenario) {d : ℕ} → m .reads s ≡ some d → refusalBy m s ≡ 0 →
+    Within m (s .magnitude) d (s .velocity) (s .mechanism) (s .period)
 unfolding refusalBy
-within m s e =
+within-at m s {d} reads e =
     let two = none-of (2 when beyond (m .magnitude) (s .magnitude)) _ e in
-    let three = none-of (3 when beyond (m .distance) (s .distance)) _ (two .1) in
+    let three = none-of (3 when given (m .reads s) (beyond (m .distance)) false) _ (two .1) in
     let four = none-of (4 when beyond (m .velocity) (s .velocity)) _ (three .1) in
     let five = none-of (5 when not (among (m .mechanisms) (s .mechanism))) _ (four .1) in
+    let near = rw reads at (not-when 2 (given (m .reads s) (beyond (m .distance)) false) (three .0)) in
     let magnitude = not-beyond (m .magnitude) (s .magnitude) (not-when 1 _ (two .0)) in
-    let distance = not-beyond (m .distance) (s .distance) (not-when 2 _ (three .0)) in
+    let distance = not-beyond (m .distance) d near in
     let velocity = not-beyond (m .velocity) (s .velocity) (not-when 3 _ (four .0)) in
     let mechanism = not-false (among (m .mechanisms) (s .mechanism)) (not-when 4 _ (five .0)) in
     let period = not-when 5 (beyondPeriods (s .period)) (five .1) in
     search needs
 
+within-by : (m : Limits) (s : Scenario) → isAbsent (m .reads s) ≡ false → refusalBy m s ≡ 0 → WithinBy m s
+within-by m s here e =
+    let d = stands (m .reads s) here in record { distance = d .0; reads = d .1; within = within-at m s (d .1) e }
+
+-- the checks one by one: none of them applies
+pub record NoneApplies (s : Scenario) : Type 0 where
+  pub nine : lacksDistance s ≡ false
+  pub thirteen : projectionExceeds s ≡ false
+  pub others : refusalByModel s ≡ 0
+
+pub none-applies : (s : Scenario) → refusalOf s ≡ 0 → NoneApplies s
+unfolding refusalOf
+none-applies s e =
+    let nine = none-of (9 when lacksDistance s) _ e in
+    let thirteen = none-of (13 when projectionExceeds s) _ (nine .1) in
+    record { nine = not-when 8 _ (nine .0); thirteen = not-when 12 _ (thirteen .0); others = thirteen .1 }
+
 -- its model is 1 or 2
 abbrev Taken : Scenario → Type 0
-Taken s = ((s .model ≡ 1) × Within idriss s) ⊎ ((s .model ≡ 2) × Within booreAtkinson s)
+Taken s = ((s .model ≡ 1) × WithinBy idriss s) ⊎ ((s .model ≡ 2) × WithinBy booreAtkinson s)
 
 pub of-model : (s : Scenario) → refusalOf s ≡ 0 →
-    ((s .model ≡ 1) × Within idriss s) ⊎ ((s .model ≡ 2) × Within booreAtkinson s)
-unfolding refusalOf
-of-model s =
-    by-test (eqb (s .model) 1) (λ k. k ≡ 0 → Taken s) (λ t e. inl (eqb→eq _ _ t, within idriss s e))
-    (λ _. by-test (eqb (s .model) 2) (λ k. k ≡ 0 → Taken s) (λ t e. inr (eqb→eq _ _ t, within booreAtkinson s e))
-    (λ _ e. absurd (omega arith)))
+    ((s .model ≡ 1) × WithinBy idriss s) ⊎ ((s .model ≡ 2) × WithinBy booreAtkinson s)
+unfolding lacksDistance refusalByModel
+of-model s e = let a = none-applies s e in go (eqb (s .model) 1) (eqb (s .model) 2) refl refl (a .nine) (a .others)
+  where
+    go : (a b : Bool) → eqb (s .model) 1 ≡ a → eqb (s .model) 2 ≡ b →
+        ((a && isAbsent (idriss .reads s)) || (b && isAbsent (booreAtkinson .reads s))) ≡ false →
+        cond a (refusalBy idriss s) (cond b (refusalBy booreAtkinson s) 1) ≡ 0 → Taken s
+    go true b p q d e = inl (eqb-true (s .model) 1 p, within-by idriss s (neither (isAbsent (idriss .reads s)) _ d .0) e)
+    go false true p q d e = inr (eqb-true (s .model) 2 q, within-by booreAtkinson s d e)
+    go false false p q d e = absurd (omega arith)
 
-pub within-idriss : (s : Scenario) → s .model ≡ 1 → refusalOf s ≡ 0 → Within idriss s
-within-idriss s m e = elim (of-model s e) [ inl p ↦ p .1 | inr p ↦ absurd (omega arith) ]
-
-pub within-boore-atkinson : (s : Scenario) → s .model ≡ 2 → refusalOf s ≡ 0 → Within booreAtkinson s
-within-boore-atkinson s m e = elim (of-model s e) [ inl p ↦ absurd (omega arith) | inr p ↦ p .1 ]
-
--- and no number of it is greater than these
+-- no number of it is greater than these; for the rupture distance of model 2 only its type sets a limit
 pub record Sizes (s : Scenario) : Type 0 where
   pub model : s .model ≤ 2
   pub magnitude : s .magnitude ≤ 800
-  pub distance : s .distance ≤ 19_999
   pub velocity : s .velocity ≤ 20_000
   pub mechanism : s .mechanism ≤ 9
   pub period : s .period ≤ 10_000
 
 -- as no limit of a model is
-sizes-by : (m : Limits) (s : Scenario) →
-    (m .magnitude .high ≤ 800) × (m .distance .high ≤ 19_999) × (m .velocity .high ≤ 20_000) →
-    T (upTo 9 (m .mechanisms)) → s .model ≤ 2 → Within m s → Sizes s
+sizes-by : (m : Limits) (s : Scenario) → (m .magnitude .high ≤ 800) × (m .velocity .high ≤ 20_000) →
+    T (upTo 9 (m .mechanisms)) → s .model ≤ 2 → WithinBy m s → Sizes s
 sizes-by m s h codes k w =
-    let mechanism = at-most 9 (m .mechanisms) (s .mechanism) codes (w .mechanism) in
-    ⊎-elim (λ p. omega arith) (λ p. omega arith) (answered (s .period) (w .period))
+    let mechanism = at-most 9 (m .mechanisms) (s .mechanism) codes (w .within .mechanism-known) in
+    ⊎-elim (λ p. omega arith) (λ p. omega arith) (answered (s .period) (w .within .period-answered))
 
 pub sizes : (s : Scenario) → refusalOf s ≡ 0 → Sizes s
 sizes s e =
     ⊎-elim (λ p. sizes-by idriss s (omega arith) tt (omega arith) (p .1))
     (λ p. sizes-by booreAtkinson s (omega arith) tt (omega arith) (p .1)) (of-model s e)
+
+-- ---- and its distances
+
+-- a number that stands is at most k
+abbrev pub AtMost : ℕ → Option ℕ → Type 0
+AtMost k none = Unit {0}
+AtMost k (some x) = x ≤ k
+
+-- one that does not exceed another that stands
+nearer : {j k r : ℕ} (p : Option ℕ) → r ≤ j → j ≤ k → exceeds p (some r) ≡ false → AtMost k p
+nearer none h l e = tt
+nearer (some p) h l e = omega (arith, ltb-false _ p e)
+
+-- the projection distance is small by either model: it is what Boore-Atkinson reads, and does not exceed what Idriss
+-- reads
+pub projection-at-most : (s : Scenario) → refusalOf s ≡ 0 → AtMost 19_999 (projectionNumber (s .projection))
+unfolding projectionExceeds
+projection-at-most s e =
+    ⊎-elim
+    (λ p.
+    let w = p .1 in
+    let e = rw (w .reads) at (none-applies s e .thirteen) in
+    nearer (projectionNumber (s .projection)) (w .within .distance-high) (omega arith) e)
+    (λ p. let w = p .1 in rw (w .reads) (w .within .distance-high)) (of-model s e)

@@ -13,8 +13,8 @@ use Rattle.toolbox_theory.specs.Lists.{among, countBelow}
 use Rattle.toolbox_theory.proofs.Tests.{is-true, each, by-test, allBelow, below}
 use Rattle.toolbox_theory.proofs.ListLaws.{Missed, earlier, missed, neither, all, all-at, rising, Around, around}
 use Rattle.toolbox_theory.proofs.ListLaws.{among-at, between-places, greatest-below, least-above}
-use Rattle.scenario_theory.specs.declared.Check.{Check}
-use Rattle.scenario_theory.specs.declared.Check.the-variants as C
+use Rattle.scenario_theory.specs.declared.PlaceCheck.{PlaceCheck}
+use Rattle.scenario_theory.specs.declared.PlaceCheck.the-variants as C
 use Rattle.scenario_theory.specs.declared.Place.the-variants as P
 use Rattle.scenario_theory.specs.Checks.{_when_, unlessRefused}
 use Rattle.scenario_theory.specs.Refusal.{Limits, idriss, booreAtkinson, answeredPeriods, beyondPeriods}
@@ -36,12 +36,12 @@ boore-atkinson-row period e =
 -- ---- the place of a period
 
 -- a look-up gave row k
-abbrev isRow : ℕ → Check → Bool
+abbrev isRow : ℕ → PlaceCheck → Bool
 isRow k (C.Accepted (P.Row j)) = eqb j k
 isRow k (C.Accepted (P.Between j)) = false
 isRow k (C.Refused j) = false
 
-row-is : (k : ℕ) (c : Check) → T (isRow k c) → c ≡ C.Accepted (P.Row k)
+row-is : (k : ℕ) (c : PlaceCheck) → T (isRow k c) → c ≡ C.Accepted (P.Row k)
 row-is k (C.Accepted (P.Row j)) t = ap (λ i. C.Accepted (P.Row i)) (eqb→eq j k t)
 row-is k (C.Accepted (P.Between j)) t = absurd t
 row-is k (C.Refused j) t = absurd t
@@ -52,7 +52,7 @@ module _ (first : ℕ) (m : Limits) (row : ℕ → ℕ) where
   count t = countBelow (m .periods) t
 
   -- by counting
-  abbrev pub place : ℕ → Check
+  abbrev pub place : ℕ → PlaceCheck
   place t = cond (eqb t 0) (C.Accepted (P.Row 0)) (placeAmong first (m .periods) t)
 
   -- what is computed once of the list
@@ -170,7 +170,7 @@ module _ (first : ℕ) (m : Limits) (row : ℕ → ℕ) where
     placed = by-tabled (hasRow m t) refl
 
   -- the place of a period that is neither 0 nor in the list
-  pub in-no-row : (t : ℕ) {n : ℕ} {c : Check} → Missed (Unit {0}) (0 ∷ m .periods) t → n ≡ countBelow (m .periods) t →
+  pub in-no-row : (t : ℕ) {n : ℕ} {c : PlaceCheck} → Missed (Unit {0}) (0 ∷ m .periods) t → n ≡ countBelow (m .periods) t →
       c ≡ cond (ltb 0 n && ltb n (length (m .periods))) (C.Accepted (P.Between (first + n - 1))) (C.Refused 6) →
       c ≡ cond (eqb t 0) (C.Accepted (P.Row 0)) (placeAmong first (m .periods) t)
   unfolding placeAmong

@@ -1,4 +1,6 @@
 pub mod Checks
+pub mod Distances
 pub mod Refusal
 pub mod Neighbours
 pub mod Rows
+pub mod Accepted

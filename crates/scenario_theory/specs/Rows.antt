@@ -9,8 +9,8 @@ use Rattle.toolbox_theory.specs.Lists.{among, placeIn, countBelow}
 use Rattle.scenario_theory.specs.declared.Scenario.{Scenario}
 use Rattle.scenario_theory.specs.declared.Place.{Place}
 use Rattle.scenario_theory.specs.declared.Place.the-variants as P
-use Rattle.scenario_theory.specs.declared.Check.{Check}
-use Rattle.scenario_theory.specs.declared.Check.the-variants as C
+use Rattle.scenario_theory.specs.declared.PlaceCheck.{PlaceCheck}
+use Rattle.scenario_theory.specs.declared.PlaceCheck.the-variants as C
 use Rattle.scenario_theory.specs.declared.RowPeriods.{RowPeriods}
 use Rattle.scenario_theory.specs.declared.RowPeriods.the-variants as R
 use Rattle.scenario_theory.specs.Checks.{unlessRefused}
@@ -34,10 +34,6 @@ booreAtkinsonRow T = placeIn (0 ∷ booreAtkinson .periods) T
 abbrev pub placeBy : Limits → (ℕ → ℕ) → ℕ → Place
 placeBy m row T = cond (hasRow m T) (P.Row (row T)) (P.Between (row (neighbourBelow m T)))
 
--- of the model 1, Idriss, or 2, Boore-Atkinson
-unfoldable pub placeOf : ℕ → ℕ → Place
-placeOf model T = cond (eqb model 1) (placeBy idriss idrissRow T) (placeBy booreAtkinson booreAtkinsonRow T)
-
 -- what is known of a period that is answered and has no row of its own
 pub record BetweenRows (m : Limits) (row : ℕ → ℕ) (T : ℕ) : Type 0 where
   pub first : among (m .periods) (neighbourBelow m T) ≡ true
@@ -49,17 +45,17 @@ pub record BetweenRows (m : Limits) (row : ℕ → ℕ) (T : ℕ) : Type 0 where
 -- ---- the same by counting, as the code has it
 
 -- among the periods of a list that rises, the first of which has row `first`
-unfoldable pub placeAmong : ℕ → List ℕ → ℕ → Check
+unfoldable pub placeAmong : ℕ → List ℕ → ℕ → PlaceCheck
 placeAmong first periods T =
     let n : ℕ = countBelow periods T in
     cond (among periods T) (C.Accepted (P.Row (first + n)))
     (cond (ltb 0 n && ltb n (length periods)) (C.Accepted (P.Between (first + n - 1))) (C.Refused 6))
 
-unfoldable pub idrissPlace : ℕ → Check
+unfoldable pub idrissPlace : ℕ → PlaceCheck
 idrissPlace T = cond (eqb T 0) (C.Accepted (P.Row 0)) (placeAmong 0 (idriss .periods) T)
 
 -- the row PGA, row 0, is no neighbour of any period
-unfoldable pub booreAtkinsonPlace : ℕ → Check
+unfoldable pub booreAtkinsonPlace : ℕ → PlaceCheck
 booreAtkinsonPlace T = cond (eqb T 0) (C.Accepted (P.Row 0)) (placeAmong 1 (booreAtkinson .periods) T)
 
 -- the periods of the rows of Idriss's tables for the model 1, of Boore-Atkinson's for any other
@@ -67,42 +63,12 @@ abbrev pub rowList : ℕ → List ℕ
 rowList model = cond (eqb model 1) (idriss .periods) (0 ∷ booreAtkinson .periods)
 
 -- the periods of the rows of a place, by a list of the periods of the rows; and that the list has them
-abbrev pub periodsAt : List ℕ → Check → RowPeriods
+abbrev pub periodsAt : List ℕ → PlaceCheck → RowPeriods
 periodsAt list (C.Accepted (P.Row k)) = R.Rows (getD list k 0) (getD list k 0)
 periodsAt list (C.Accepted (P.Between k)) = R.Rows (getD list k 0) (getD list (k + 1) 0)
 periodsAt list (C.Refused k) = R.Refused k
 
-abbrev pub InTable : Check → Type 0
+abbrev pub InTable : PlaceCheck → Type 0
 InTable (C.Accepted (P.Row k)) = k < rowCount
 InTable (C.Accepted (P.Between k)) = k + 1 < rowCount
 InTable (C.Refused k) = Unit {0}
-
--- ---- the checks, with the place that they have looked up
-
--- s is accepted, and p is the place of its period in the tables of its model
-pub record Looked (s : Scenario) (p : Place) : Type 0 where
-  pub accepted : refusalOf s ≡ 0
-  pub place : p ≡ placeOf (s .model) (s .period)
-
--- by the limits of a model and the rows of its tables
-unfoldable pub checkBy : Limits → (ℕ → ℕ) → Scenario → Check
-checkBy m row s = unlessRefused (refusalBy m s) (C.Accepted (placeBy m row (s .period))) (C.Refused (refusalBy m s))
-
-unfoldable pub checkOf : Scenario → Check
-checkOf s = unlessRefused (refusalOf s) (C.Accepted (placeOf (s .model) (s .period))) (C.Refused (refusalOf s))
-
--- the scenario that has the fields
-abbrev pub scenarioWith : ℕ → ℕ → ℕ → ℕ → ℕ → ℕ → Scenario
-scenarioWith model magnitude distance velocity mechanism period =
-    record {
-      model = model;
-      magnitude = magnitude;
-      distance = distance;
-      velocity = velocity;
-      mechanism = mechanism;
-      period = period;
-    }
-
--- one that is accepted but for its model and its period
-abbrev pub plainScenario : ℕ → ℕ → Scenario
-plainScenario model T = scenarioWith model 700 0 7_600 0 T

@@ -4,10 +4,10 @@ use Prim.Native.Nat.{_+_, _<_}
 use native.Mathlib.Omega.{arith}
 use borrow.Author.Needs.{needs}
 use Rattle.scenario_theory.specs.declared.Place.the-variants as P
-use Rattle.scenario_theory.specs.declared.Check.the-variants as C
+use Rattle.scenario_theory.specs.declared.PlaceCheck.the-variants as C
 use Rattle.scenario_theory.specs.Rows.{rowCount}
-use Rattle.scenario.proofs.periods_at.Statement.{statement}
-use Rattle.scenario.proofs.periods_at.Tie as tie
+use Rattle.scenario_periods.proofs.periods_at.Statement.{statement}
+use Rattle.scenario_periods.proofs.periods_at.Tie as tie
 
 -- the place in the two inner arms
 at-row : (c : tie.After-known-told2) →

@@ -1,8 +1,8 @@
 -- `period_of_row` meets its contract.
 use borrow.Author.Needs.{needs}
 use borrow.Author.Tests.{ne-eqb}
-use Rattle.scenario.proofs.period_of_row.Statement.{statement}
-use Rattle.scenario.proofs.period_of_row.Tie as tie
+use Rattle.scenario_periods.proofs.period_of_row.Statement.{statement}
+use Rattle.scenario_periods.proofs.period_of_row.Tie as tie
 
 pub period-of-row-spec : {M : Type 1} → statement M
 period-of-row-spec =
