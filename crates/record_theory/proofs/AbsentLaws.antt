@@ -5,7 +5,8 @@ use mathlib.Core.Option.{Option, none, some}
 use Prim.Native.Nat.{ℕ, _<_}
 use borrow.Author.Tests.{eqb-true, eqb-false, eq-eqb, ne-eqb}
 use lib.Dec.{eqb}
-use Rattle.record_theory.specs.Layout.{isAbsent, _unless_, _or_}
+use Rattle.scenario_theory.specs.Distances.{isAbsent}
+use Rattle.record_theory.specs.Layout.{_unless_, _or_}
 
 -- a number that stands is below k
 abbrev pub Below : ℕ → Option ℕ → Type 0

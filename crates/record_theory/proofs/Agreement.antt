@@ -11,7 +11,8 @@ use borrow.Author.Tests.{eqb-true, eqb-false, eq-eqb, ne-eqb}
 use lib.Dec.{eqb}
 use lib.ListN.{length, length-append}
 use Rattle.scenario_theory.specs.declared.Scenario.{Scenario}
-use Rattle.record_theory.specs.Layout.{Field, layout, isAbsent, stands, sizeOf, absentWritten, mapOf, partOf}
+use Rattle.scenario_theory.specs.Distances.{isAbsent}
+use Rattle.record_theory.specs.Layout.{Field, layout, stands, sizeOf, absentWritten, mapOf, partOf}
 use Rattle.record_theory.specs.Layout.{partsOf}
 use Rattle.record_theory.specs.Outcome.{mapRefusal}
 use Rattle.record_theory.proofs.ByteLaws.{bytes-length}
@@ -45,7 +46,7 @@ Counted k [] = Unit {0}
 Counted k (f ∷ fs) = (f .bit ≡ k) × Counted (suc k) fs
 
 layout-counted : Counted 0 layout
-layout-counted = (refl, (refl, (refl, (refl, (refl, (refl, tt))))))
+layout-counted = (refl, (refl, (refl, (refl, (refl, (refl, (refl, tt)))))))
 
 abbrev digits : List Field → Scenario → ℕ
 digits [] x = 0
@@ -105,7 +106,6 @@ module _ (x : Scenario) where
   written-passes =
       let m = mapOf layout x in
       let h = written-agrees in
-      let spare : (m / 2 ^ 6 % 2 ≡ 0) × (m / 2 ^ 7 % 2 ≡ 0) =
-      (omega (arith, written-small), omega (arith, written-small)) in
+      let spare : m / 2 ^ 7 % 2 ≡ 0 = omega (arith, written-small) in
       let some : eqb m 0 ≡ false = ne-eqb m 0 (λ z. omega (arith, eqb-true (m / 2 ^ 0 % 2) 1 (h .0))) in
-      rw (spare .0, spare .1, h .0, h .1 .0, h .1 .1 .0, some) refl
+      rw (spare, h .0, h .1 .0, some) refl

@@ -1,18 +1,24 @@
 -- Reading and writing undo each other, for all scenarios and all bytes. Demand 2: "A record is read as the scenario its
 -- layout gives, an accepted scenario is written as its one record, and each undoes the other".
 use mathlib.Core.Path.{_≡_, refl, sym, ap, _∙_}
+use mathlib.Core.Bool.{Bool, true, false, cond}
 use mathlib.Core.List.{List, _++_}
+use mathlib.Core.Logic.{⊎-elim}
+use mathlib.Core.Option.{none, some}
 use Prim.Native.Nat.{ℕ, _≤_}
 use native.Mathlib.Omega.{arith}
 use lib.ListN.{length, take, drop}
 use lib.Seq.{length-take-le}
 use Rattle.scenario_theory.specs.declared.Scenario.{Scenario}
+use Rattle.scenario_theory.specs.Distances.{ruptureNumber, isAbsent}
 use Rattle.scenario_theory.specs.Refusal.{refusalOf}
+use Rattle.scenario_theory.proofs.DistanceLaws.{rupture-number, projection-number}
+use Rattle.scenario_theory.proofs.RefusalLaws.{AtMost, of-model}
 use Rattle.record_theory.specs.declared.Reading.the-variants.{Read}
 use Rattle.record_theory.specs.declared.Writing.the-variants.{Length}
-use Rattle.record_theory.specs.Layout.{Bytes, recordOf}
-use Rattle.record_theory.specs.Outcome.{mapIn, readOf, restOf, writeOf, lentAfter}
-use Rattle.record_theory.proofs.FieldLaws.{length-is}
+use Rattle.record_theory.specs.Layout.{Bytes, stands, recordOf}
+use Rattle.record_theory.specs.Outcome.{mapIn, scenarioIn, lengthBy, mapRefusal, readOf, restOf, writeOf, lentAfter}
+use Rattle.record_theory.proofs.FieldLaws.{length-is, scenario-is}
 use Rattle.record_theory.proofs.ReadBack.{read-written, rest-written}
 use Rattle.record_theory.proofs.ReadingLaws.{read-as}
 use Rattle.record_theory.proofs.RecordBytes.{record-bytes}
@@ -22,7 +28,8 @@ use Rattle.record_theory.proofs.WritingLaws.{is-written, written-as}
 -- ---- an accepted scenario has a record: bytes, read as the scenario whatever follows them, and written where they fit
 
 module _ (x : Scenario) (e : refusalOf x ≡ 0) where
-  pub record-is-bytes : Bytes (recordOf x)
+  -- no check bounds a rupture distance that the model does not read, but it is the number of a u16
+  pub record-is-bytes : AtMost 65_535 (ruptureNumber (x .rupture)) → Bytes (recordOf x)
   record-is-bytes = record-bytes x e
 
   pub record-is-read : (s : List ℕ) → readOf (recordOf x ++ s) ≡ Read x (length (recordOf x))
@@ -62,13 +69,29 @@ module _ (s : List ℕ) (h : Bytes s) (x : Scenario) (n : ℕ) (e : readOf s ≡
       let w = is-written x lent read-is-accepted (sym record-size) l refl in
       (sym (w .0), sym (rw (record-size, read-is-record) at (w .1 .1)))
 
--- ---- a record that is read has six bytes or more, and is within the bytes
+-- ---- a record that is read has six bytes or more, one of its distances among them, and is within the bytes
+
+-- what is read by its bit has two bytes where it stands
+two-bytes : (b : Bool) (x : ℕ) {d : ℕ} → cond b (some x) none ≡ some d → _≡_ {A = ℕ} (cond b 2 0) 2
+two-bytes true x e = refl
+two-bytes false x e = let z : _≡_ {A = ℕ} 0 1 = cc in absurd (omega arith)
+
+record-long : (s : List ℕ) → mapRefusal (mapIn s) ≡ 0 → refusalOf (scenarioIn s) ≡ 0 → 6 ≤ lengthBy (mapIn s)
+record-long s e f =
+    let m = mapIn s in
+    ⊎-elim
+    (λ p.
+    let d = rw (scenario-is s e, rupture-number) at (p .1 .reads) in
+    omega (arith, length-is m e, two-bytes (stands 2 m) _ d))
+    (λ p.
+    let d = rw (scenario-is s e, projection-number) at (p .1 .reads) in
+    omega (arith, length-is m e, two-bytes (stands 6 m) _ d)) (of-model (scenarioIn s) f)
 
 pub read-size : (s : List ℕ) (x : Scenario) (n : ℕ) → readOf s ≡ Read x n → (6 ≤ n) × (n ≤ length s)
 read-size s x n e =
     let r = read-as s x n e in
     let front = r .passes .front in
-    (omega (arith, length-is (mapIn s) (front .passes)), omega arith)
+    (omega (arith, record-long s (front .passes) (r .passes .taken)), omega arith)
 
 -- ---- and so an accepted scenario has one record: any bytes that are read as it are those
 

@@ -10,9 +10,11 @@ use borrow.Author.Tests.{ne-eqb, le-ltb}
 use lib.ListN.{length, take, drop, length-append}
 use lib.Seq.{take-at, drop-at, drop-append-seam}
 use Rattle.scenario_theory.specs.declared.Scenario.{Scenario}
+use Rattle.scenario_theory.specs.Distances.{isAbsent}
 use Rattle.scenario_theory.specs.Refusal.{refusalOf}
+use Rattle.scenario_theory.proofs.DistanceLaws.{rupture-of, projection-of}
 use Rattle.record_theory.specs.declared.Reading.the-variants.{Read}
-use Rattle.record_theory.specs.Layout.{isAbsent, Field, layout, numberOf, numbersOf, bytesOf, mapOf, partOf}
+use Rattle.record_theory.specs.Layout.{Field, layout, numberOf, numbersOf, bytesOf, mapOf, partOf}
 use Rattle.record_theory.specs.Layout.{partsOf, recordOf}
 use Rattle.record_theory.specs.Outcome.{mapIn, scenarioIn, lengthBy, readRefusal, readOf, restOf}
 use Rattle.record_theory.proofs.AbsentLaws.{unless-or}
@@ -27,7 +29,8 @@ Wide [] = Unit {0}
 Wide (f ∷ fs) = (1 ≤ f .width) × Wide fs
 
 layout-wide : Wide layout
-layout-wide = (search needs, (search needs, (search needs, (search needs, (search needs, (search needs, tt))))))
+layout-wide =
+    (search needs, (search needs, (search needs, (search needs, (search needs, (search needs, (search needs, tt)))))))
 
 number-front : (w x : ℕ) (s : List ℕ) → 1 ≤ w → numberOf (take w (bytesOf w x ++ s)) ≡ x
 number-front zero x s h = absurd (omega arith)
@@ -66,7 +69,8 @@ module _ (x : Scenario) (s : List ℕ) (e : refusalOf x ≡ 0) where
 
   scenario-back : scenarioIn (recordOf x ++ s) ≡ x
   unfolding scenarioIn recordOf
-  scenario-back = rw (numbers-back layout (mapOf layout x) x s (written-agrees x) layout-wide) (simp unless-or)
+  scenario-back = rw (numbers-back layout (mapOf layout x) x s (written-agrees x) layout-wide)
+      (simp (unless-or, rupture-of, projection-of))
 
   passes-back : readRefusal (recordOf x ++ s) ≡ 0
   unfolding readRefusal recordOf

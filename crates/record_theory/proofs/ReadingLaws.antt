@@ -1,8 +1,8 @@
 -- What reading answers, check by check, and what an answer says of the bytes.
-use mathlib.Core.Path.{_≡_, refl, sym, ap, _∙_}
+use mathlib.Core.Path.{_≡_, refl, sym, ap, subst, _∙_}
 use mathlib.Core.Bool.{true, false}
 use mathlib.Core.List.{List, []}
-use Prim.Native.Nat.{ℕ}
+use Prim.Native.Nat.{ℕ, zero, suc}
 use native.Mathlib.Omega.{arith}
 use borrow.Author.Tests.{ltb-false}
 use lib.Dec.{eqb}
@@ -10,20 +10,21 @@ use lib.ListN.{length, drop}
 use Rattle.scenario_theory.specs.declared.Scenario.{Scenario}
 use Rattle.scenario_theory.specs.declared.Check.{Check}
 use Rattle.scenario_theory.specs.declared.Check.the-variants as C
-use Rattle.scenario_theory.specs.Checks.{_when_, _otherwise_}
+use Rattle.scenario_theory.specs.Checks.{_when_, _otherwise_, unlessRefused}
 use Rattle.scenario_theory.specs.Refusal.{refusalOf}
-use Rattle.scenario_theory.specs.Rows.{placeOf, Looked, checkOf}
+use Rattle.scenario_theory.specs.Accepted.{basisOf, checkOf, RestsOn}
 use Rattle.scenario_theory.proofs.CheckLaws.{is-first, first-of-three, none-of, not-when}
 use Rattle.scenario_theory.proofs.CheckLaws.{is-refused, by-number, of-unless}
-use Rattle.scenario_theory.specs.declared.Place.{Place}
-use Rattle.record_theory.specs.declared.PlacedReading.{PlacedReading}
-use Rattle.record_theory.specs.declared.PlacedReading.the-variants as T
+use Rattle.scenario_theory.proofs.CheckedLaws.{based}
+use Rattle.scenario_theory.specs.declared.Basis.{Basis}
+use Rattle.record_theory.specs.declared.BasedReading.{BasedReading}
+use Rattle.record_theory.specs.declared.BasedReading.the-variants as T
 use Rattle.record_theory.specs.declared.Reading.the-variants.{Read, Refused}
 use Rattle.record_theory.specs.Layout.{layout, absentWritten}
 use Rattle.record_theory.specs.Outcome.{mapIn, scenarioIn, lengthBy, mapRefusal, readRefusal, readOf, restAt}
 use Rattle.record_theory.specs.Outcome.{restOf, readingNumber, readingValues, ReadPromise}
-use Rattle.record_theory.specs.Steps.{frontRefusal, fieldRefusal, fieldCheck, placedReadingOf, placeless}
-use Rattle.record_theory.specs.Steps.{Complete}
+use Rattle.record_theory.specs.Steps.{frontRefusal, fieldRefusal, fieldCheck, basedReading}
+use Rattle.record_theory.specs.Steps.{basedReadingOf, readingIn, Complete}
 
 -- ---- the checks in two parts, as the program makes them
 
@@ -61,43 +62,45 @@ module _ (m : ℕ) (x : Scenario) where
   unfolding fieldCheck fieldRefusal checkOf
   not-written-out e h = rw e h
 
--- ---- the answers of reading with the place
+-- ---- the answers of reading with what an answer rests on
 
 module _ (s : List ℕ) where
-  refused : (k : ℕ) → k ≡ readRefusal s → (k ≡ 0 → ⊥) → T.Refused k ≡ placedReadingOf s
-  unfolding placedReadingOf
+  refused : (k : ℕ) → k ≡ readRefusal s → (k ≡ 0 → ⊥) → T.Refused k ≡ basedReadingOf s
+  unfolding basedReadingOf
   refused k e h = rw (← e) (is-refused k _ (T.Refused k) h)
 
-  pub refused-front : (k : ℕ) → k ≡ frontRefusal s → (k ≡ 0 → ⊥) → T.Refused k ≡ placedReadingOf s
+  pub refused-front : (k : ℕ) → k ≡ frontRefusal s → (k ≡ 0 → ⊥) → T.Refused k ≡ basedReadingOf s
   refused-front k e h = refused k (e ∙ (is-first (frontRefusal s) _ (λ z. h (e ∙ z)) ∙ in-two s)) h
 
   module _ (front : frontRefusal s ≡ 0) where
     numbers : fieldRefusal (mapIn s) (scenarioIn s) ≡ readRefusal s
     numbers = rw front at (in-two s)
 
-    pub refused-fields : {k : ℕ} → fieldCheck (mapIn s) (scenarioIn s) ≡ C.Refused k → T.Refused k ≡ placedReadingOf s
-    unfolding fieldCheck
-    refused-fields {k} e =
-        by-number (λ r. r ≡ C.Refused k → T.Refused k ≡ placedReadingOf s) (fieldRefusal (mapIn s) (scenarioIn s))
-        (λ p q. let z : _≡_ {A = ℕ} 0 1 = cc in absurd (omega arith))
-        (λ p q. let same : k ≡ fieldRefusal (mapIn s) (scenarioIn s) = cc in
-        refused k (same ∙ numbers) (λ z. p (sym same ∙ z))) e
+    fields : basedReading (scenarioIn s) (lengthBy (mapIn s)) (fieldCheck (mapIn s) (scenarioIn s)) ≡ basedReadingOf s
+    unfolding fieldCheck basedReadingOf
+    fields =
+        let x = scenarioIn s in
+        rw (← numbers) (of-unless (basedReading x (lengthBy (mapIn s))) (fieldRefusal (mapIn s) x) (basisOf x) _)
 
-    pub is-read : {place : Place} → fieldCheck (mapIn s) (scenarioIn s) ≡ C.Accepted place →
-        T.Read (scenarioIn s) (lengthBy (mapIn s)) place ≡ placedReadingOf s
-    unfolding fieldCheck placedReadingOf
-    is-read {place} e =
-        by-number (λ r. r ≡ C.Accepted place → T.Read (scenarioIn s) (lengthBy (mapIn s)) place ≡ placedReadingOf s)
-        (fieldRefusal (mapIn s) (scenarioIn s))
-        (λ p q. let same : place ≡ placeOf (scenarioIn s .model) (scenarioIn s .period) = cc in
-        rw (sym numbers ∙ p, same) refl)
-        (λ p q. let z : _≡_ {A = ℕ} 0 1 = cc in absurd (omega arith)) e
+    pub refused-fields : {k : ℕ} → fieldCheck (mapIn s) (scenarioIn s) ≡ C.Refused k → T.Refused k ≡ basedReadingOf s
+    refused-fields e = rw e at fields
 
-  -- ---- the contract of reading: the place left out
+    pub is-read : {b : Basis} → fieldCheck (mapIn s) (scenarioIn s) ≡ C.Accepted b →
+        T.Read (scenarioIn s) (lengthBy (mapIn s)) b ≡ basedReadingOf s
+    is-read e = rw e at fields
 
-  forgotten : placeless (placedReadingOf s) ≡ readOf s
-  unfolding placedReadingOf readOf
-  forgotten = of-unless placeless (readRefusal s) _ _
+  -- ---- the contract of reading: that left out
+
+  forgotten : readingIn (basedReadingOf s) ≡ readOf s
+  unfolding basedReadingOf readOf
+  forgotten = go (readRefusal s) refl
+    where
+      go : (k : ℕ) → readRefusal s ≡ k →
+          readingIn (unlessRefused k (basedReading (scenarioIn s) (lengthBy (mapIn s)) (basisOf (scenarioIn s)))
+          (T.Refused k)) ≡
+          unlessRefused k (Read (scenarioIn s) (lengthBy (mapIn s))) (Refused k)
+      go zero e = rw (based (scenarioIn s) (accepted s e .taken) .is) refl
+      go (suc k) e = refl
 
   read-promise : ReadPromise s (readOf s)
   unfolding readOf
@@ -106,8 +109,8 @@ module _ (s : List ℕ) where
     values = of-unless readingValues (readRefusal s) _ _;
   }
 
-  pub read-of : {t : PlacedReading} → placedReadingOf s ≡ t → (placeless t ≡ readOf s) × ReadPromise s (placeless t)
-  read-of e = let f = ap placeless (sym e) ∙ forgotten in (f, rw f read-promise)
+  pub read-of : {t : BasedReading} → basedReadingOf s ≡ t → (readingIn t ≡ readOf s) × ReadPromise s (readingIn t)
+  read-of e = let f = ap readingIn (sym e) ∙ forgotten in (f, rw f read-promise)
 
 -- ---- what an answer says
 
@@ -155,20 +158,21 @@ not-read s k e =
       rest = sym (is-refused (readRefusal s) _ _ p);
     }) e
 
--- ---- what reading with the place says
+-- ---- what reading with what an answer rests on says
 
-pub record PlacedRead (s : List ℕ) (x : Scenario) (n : ℕ) (place : Place) : Type 0 where
+pub record BasedRead (s : List ℕ) (x : Scenario) (n : ℕ) (b : Basis) : Type 0 where
   pub read : readOf s ≡ Read x n
-  pub looked : Looked x place
+  pub rests : RestsOn x b
 
-pub placed-read : (s : List ℕ) {x : Scenario} {n : ℕ} {place : Place} → placedReadingOf s ≡ T.Read x n place →
-    PlacedRead s x n place
-unfolding placedReadingOf
-placed-read s {x} {n} {place} e =
-    let read = sym (read-of s e .0) in
-    let r = read-as s x n read in
-    let accepted = rw (r .scenario) at (r .passes .taken) in
-    let looked = by-number (λ r. r ≡ T.Read x n place → Looked x place) (readRefusal s)
-    (λ p q. record { accepted = accepted; place = cc })
+pub based-read : (s : List ℕ) {x : Scenario} {n : ℕ} {b : Basis} → basedReadingOf s ≡ T.Read x n b → BasedRead s x n b
+unfolding basedReadingOf
+based-read s {x} {n} {b} e =
+    let rests = by-number (λ r. r ≡ T.Read x n b → RestsOn x b) (readRefusal s)
+    (λ p q.
+    let d = based (scenarioIn s) (accepted s p .taken) in
+    let is = d .is in
+    let same : scenarioIn s ≡ x = cc in
+    let basis : d .rests ≡ b = cc in
+    subst (λ y. RestsOn y b) same (subst (RestsOn (scenarioIn s)) basis (d .known)))
     (λ p q. let z : _≡_ {A = ℕ} 0 1 = cc in absurd (omega arith)) e in
-    record { read = read; looked = looked }
+    record { read = sym (read-of s e .0); rests = rests }

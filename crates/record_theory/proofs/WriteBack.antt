@@ -1,6 +1,6 @@
 -- Writing undoes reading: the record of a scenario that is read is what it was read from.
 use mathlib.Core.Path.{_≡_, refl, sym}
-use mathlib.Core.Bool.{Bool, true, false, not, cond}
+use mathlib.Core.Bool.{Bool, true, false, not, cond, _&&_, _||_}
 use mathlib.Core.List.{List, [], _∷_, map}
 use mathlib.Core.Option.{Option, none, some}
 use Prim.Native.Nat.{ℕ, _+_, _≤_, _<_}
@@ -8,8 +8,10 @@ use native.Mathlib.Omega.{arith}
 use lib.ListN.{length, take, drop, length-drop}
 use lib.Seq.{take-add}
 use Rattle.scenario_theory.specs.declared.Scenario.{Scenario}
+use Rattle.scenario_theory.specs.Distances.{isAbsent}
+use Rattle.scenario_theory.proofs.DistanceLaws.{rupture-number, projection-number}
 use Rattle.record_theory.specs.Layout.{absentVelocity, absentMechanism, absentPeriod, Bytes, Field, layout}
-use Rattle.record_theory.specs.Layout.{isAbsent, scenarioOf, stands, numberOf, sizeOf, numbersOf, absentWritten}
+use Rattle.record_theory.specs.Layout.{scenarioOf, stands, numberOf, sizeOf, numbersOf, absentWritten}
 use Rattle.record_theory.specs.Layout.{partOf, partsOf, recordOf}
 use Rattle.record_theory.specs.Outcome.{mapIn, scenarioIn, lengthBy, mapRefusal}
 use Rattle.record_theory.proofs.AbsentLaws.{or-unless}
@@ -20,6 +22,12 @@ use Rattle.record_theory.proofs.Agreement.{Agree, map-agrees}
 
 -- ---- the fields
 
+-- what is read of a distance is not absent where its bit stands, so others follow it
+distance-left : (b : Bool) (x : ℕ) (others : Bool) →
+    ((isAbsent (cond b (some x) none) && b) || others) ≡ false → others ≡ false
+distance-left true x others e = e
+distance-left false x others e = e
+
 -- what is written of a scenario that is read is what was read
 written-read : (m : ℕ) (s : List ℕ) → mapRefusal m ≡ 0 →
     absentWritten layout m (scenarioOf (numbersOf layout m s)) ≡ false →
@@ -27,10 +35,10 @@ written-read : (m : ℕ) (s : List ℕ) → mapRefusal m ≡ 0 →
 unfolding numbersOf absentWritten
 written-read m s e a =
     let p = passed m e in
-    let velocity = or-unless (stands 3 m) _ absentVelocity _ a in
+    let velocity = or-unless (stands 3 m) _ absentVelocity _ (distance-left (stands 2 m) _ _ (rw rupture-number at a)) in
     let mechanism = or-unless (stands 4 m) _ absentMechanism _ (velocity .1) in
     let period = or-unless (stands 5 m) _ absentPeriod _ (mechanism .1) in
-    rw (velocity .0, mechanism .0, period .0, p .model, p .magnitude, p .distance) refl
+    rw (velocity .0, mechanism .0, period .0, p .model, p .magnitude, rupture-number, projection-number) refl
 
 -- a field that was read: its bit agrees, and it is written as the bytes that it was read from
 kept : (w : ℕ) (o : Option ℕ) (b : Bool) (s : List ℕ) → o ≡ cond b (some (numberOf (take w s))) none → Bytes s →

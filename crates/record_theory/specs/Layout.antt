@@ -1,17 +1,15 @@
 -- The record of a scenario: a map byte, then the fields whose bits stand.
--- Document 01, 'Records and doubles', unless another place is named.
-use mathlib.Core.Bool.{Bool, true, false, cond, _&&_, _||_}
+-- Document 01, 'Records and doubles', unless another place is named; document 02, W-202, for the distances.
+use mathlib.Core.Bool.{Bool, false, cond, _&&_, _||_}
 use mathlib.Core.List.{List, [], _∷_, _++_}
 use mathlib.Core.Option.{Option, none, some}
 use Prim.Native.Nat.{ℕ, zero, suc, _+_, _*_, _/_, _%_, _^_, _<_}
 use lib.Dec.{eqb}
 use lib.ListN.{getD, take, drop}
 use Rattle.scenario_theory.specs.declared.Scenario.{Scenario}
+use Rattle.scenario_theory.specs.Distances.{ruptureNumber, ruptureOf, projectionNumber, projectionOf, isAbsent}
 
 -- a record has a number of each field, or none: the field is left out
-abbrev pub isAbsent : Option ℕ → Bool
-isAbsent none = true
-isAbsent (some x) = false
 
 infix 40 _unless_
 -- a number that is left out where it is d: "a field with that number is never written"
@@ -44,28 +42,31 @@ abbrev pub field : ℕ → ℕ → (Scenario → Option ℕ) → Field
 field bit width written = record { bit = bit; width = width; written = written }
 
 -- "in this order: bit 0 model (1 byte), 1 magnitude, 2 distance, 3 velocity (2 bytes each), 4 mechanism (1), 5 period
--- (2)"
+-- (2)"; "Bit 2 becomes the rupture distance. Bit 6 becomes the distance to the surface projection, 2 bytes, after the
+-- period" (W-202). A field is always written, or has an absent number, or is absent without one
 abbrev pub layout : List Field
 layout =
     field 0 1 (λ s. some (s .model)) ∷
     field 1 2 (λ s. some (s .magnitude)) ∷
-    field 2 2 (λ s. some (s .distance)) ∷
+    field 2 2 (λ s. ruptureNumber (s .rupture)) ∷
     field 3 2 (λ s. s .velocity unless absentVelocity) ∷
     field 4 1 (λ s. s .mechanism unless absentMechanism) ∷
     field 5 2 (λ s. s .period unless absentPeriod) ∷
+    field 6 2 (λ s. projectionNumber (s .projection)) ∷
     []
 
--- the scenario of what a record has of the fields, in the layout's order; a record that lacks one of the first three is
+-- the scenario of what a record has of the fields, in the layout's order; a record that lacks model or magnitude is
 -- refused (9), so that their 0 is never used
 abbrev pub scenarioOf : List (Option ℕ) → Scenario
 scenarioOf xs =
     record {
       model = getD xs 0 none or 0;
       magnitude = getD xs 1 none or 0;
-      distance = getD xs 2 none or 0;
+      rupture = ruptureOf (getD xs 2 none);
       velocity = getD xs 3 none or absentVelocity;
       mechanism = getD xs 4 none or absentMechanism;
       period = getD xs 5 none or absentPeriod;
+      projection = projectionOf (getD xs 6 none);
     }
 
 -- bit k of the map byte m stands

@@ -1,13 +1,15 @@
 -- What reading and writing answer, and the bytes that they hand back or leave.
--- Document 01, 'Records and doubles' and 'What is turned away'.
+-- Document 01, 'Records and doubles' and 'What is turned away'; document 02, W-202, for the distances.
 use mathlib.Core.Path.{_≡_}
-use mathlib.Core.Bool.{not, _&&_, _||_}
+use mathlib.Core.Bool.{not, _&&_}
 use mathlib.Core.List.{List, [], _∷_, _++_}
+use mathlib.Core.Option.{Option, some}
 use Prim.Native.Nat.{ℕ, _+_}
 use lib.Dec.{eqb, ltb}
 use lib.ListN.{length, getD, drop}
 use Rattle.scenario_theory.specs.declared.Scenario.{Scenario}
 use Rattle.scenario_theory.specs.Checks.{_when_, _otherwise_, unlessRefused}
+use Rattle.scenario_theory.specs.Distances.{ruptureNumber, projectionNumber}
 use Rattle.scenario_theory.specs.Refusal.{refusalOf}
 use Rattle.record_theory.specs.declared.Reading.{Reading}
 use Rattle.record_theory.specs.declared.Reading.the-variants as R
@@ -29,14 +31,16 @@ scenarioIn s = scenarioOf (numbersOf layout (mapIn s) (drop 1 s))
 unfoldable pub lengthBy : ℕ → ℕ
 lengthBy m = 1 + sizeOf layout m
 
--- the checks of the map byte: 8 "bit 6 or 7 stands", 9 "bit 0, 1 or 2 is clear", 10 "no bit stands"
+-- the checks of the map byte: 8 "Only bit 7 is spare now", "9 for bits 0 and 1 keeps its place" (W-202), 10 "no bit
+-- stands"
 unfoldable pub mapRefusal : ℕ → ℕ
 mapRefusal m =
-    8 when (stands 6 m || stands 7 m) otherwise
-    9 when not (stands 0 m && (stands 1 m && stands 2 m)) otherwise
+    8 when stands 7 m otherwise
+    9 when not (stands 0 m && stands 1 m) otherwise
     10 when eqb m 0
 
--- "Reading checks 7 (no map byte), 8, 9, 10, 7 (fields), 11, then 1 to 6": the first that applies, 0 where none does
+-- "Reading checks 7 (no map byte), 8, 9, 10, 7 (fields), 11, then 1 to 6", where "9 for the distance comes after 11",
+-- and 13 "just before 1" (W-202): the first that applies, 0 where none does
 unfoldable pub readRefusal : List ℕ → ℕ
 readRefusal s =
     7 when eqb (length s) 0 otherwise
@@ -62,11 +66,20 @@ abbrev pub readingNumber : Reading → ℕ
 readingNumber (R.Read x n) = 0
 readingNumber (R.Refused k) = k
 
--- the fields in the layout's order, and the record's length
-abbrev pub valuesOf : Scenario → ℕ → List ℕ
-valuesOf x n = x .model ∷ x .magnitude ∷ x .distance ∷ x .velocity ∷ x .mechanism ∷ x .period ∷ n ∷ []
+-- the fields in the layout's order, and the record's length; "An absent distance has no number" (W-202)
+abbrev pub valuesOf : Scenario → ℕ → List (Option ℕ)
+valuesOf x n =
+    some (x .model) ∷
+    some (x .magnitude) ∷
+    ruptureNumber (x .rupture) ∷
+    some (x .velocity) ∷
+    some (x .mechanism) ∷
+    some (x .period) ∷
+    projectionNumber (x .projection) ∷
+    some n ∷
+    []
 
-abbrev pub readingValues : Reading → List ℕ
+abbrev pub readingValues : Reading → List (Option ℕ)
 readingValues (R.Read x n) = valuesOf x n
 readingValues (R.Refused k) = []
 
@@ -77,7 +90,8 @@ pub record ReadPromise (s : List ℕ) (r : Reading) : Type 0 where
 
 -- ---- writing
 
--- "Writing checks 1 to 6, then 12", "lent bytes shorter than the record"
+-- "Writing checks 1 to 6, then 12", "lent bytes shorter than the record"; it begins "with 9 for the distance", and 13
+-- (W-202)
 unfoldable pub writeRefusal : Scenario → List ℕ → ℕ
 writeRefusal x lent = refusalOf x otherwise 12 when ltb (length lent) (length (recordOf x))
 

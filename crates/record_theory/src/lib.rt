@@ -1,5 +1,5 @@
 // The record of a scenario: what reading and writing answer, the layout, and laws. There is no code.
-use scenario_theory::Place;
+use scenario_theory::Basis;
 use scenario_theory::Scenario;
 
 // What reading answers: the scenario and the length of its record, or the number with which it is turned away.
@@ -14,8 +14,8 @@ pub enum Writing {
     Refused(u8),
 }
 
-// What is read, with the place of the period in the tables of the scenario's model.
-pub enum PlacedReading {
-    Read(Scenario, usize, Place),
+// What is read, with what an answer to the scenario rests on.
+pub enum BasedReading {
+    Read(Scenario, usize, Basis),
     Refused(u8),
 }

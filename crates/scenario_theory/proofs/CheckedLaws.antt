@@ -126,10 +126,10 @@ some-is e = cc
 
 module _ (s : Scenario) where
   -- what an answer to a scenario that is accepted rests on
-  record Based : Type 0 where
-    rests : Basis
-    is : basisOf s ≡ K.Accepted rests
-    known : RestsOn s rests
+  pub record Based : Type 0 where
+    pub rests : Basis
+    pub is : basisOf s ≡ K.Accepted rests
+    pub known : RestsOn s rests
 
   by-rupture : refusalOf s ≡ 0 → s .model ≡ 1 → WithinBy idriss s → (d : Rupture) → s .rupture ≡ d → Based
   unfolding basisOf
@@ -160,7 +160,7 @@ module _ (s : Scenario) where
         };
       }
 
-  based : refusalOf s ≡ 0 → Based
+  pub based : refusalOf s ≡ 0 → Based
   based a =
       ⊎-elim (λ p. by-rupture a (p .0) (p .1) (s .rupture) refl)
       (λ p. by-projection a (p .0) (p .1) (s .projection) refl) (of-model s a)
