@@ -27,10 +27,10 @@ pub fn more_if(n: usize, b: bool, k: usize) -> usize
 pub fn map_refusal(m: u8) -> u8
     ensures { λ r. ⌜ r ≡ mapRefusal m ⌝ }
 {
-    if 64 <= m {
+    if 128 <= m {
         return 8;
     }
-    if m % 8 != 7 {
+    if m % 4 != 3 {
         return 9;
     }
     if m == 0 {
@@ -44,7 +44,9 @@ pub fn record_length(m: u8) -> usize
     requires { ⌜ mapRefusal m ≡ 0 ⌝ }
     ensures { λ r. ⌜ r ≡ lengthBy m ⌝ }
 {
-    let mechanism_at = more_if(6, m / 8 % 2 == 1, 2);
+    let velocity_at = more_if(4, m / 4 % 2 == 1, 2);
+    let mechanism_at = more_if(velocity_at, m / 8 % 2 == 1, 2);
     let period_at = more_if(mechanism_at, m / 16 % 2 == 1, 1);
-    more_if(period_at, m / 32 % 2 == 1, 2)
+    let projection_at = more_if(period_at, m / 32 % 2 == 1, 2);
+    more_if(projection_at, m / 64 % 2 == 1, 2)
 }

@@ -1,21 +1,27 @@
 // Reads the record of a scenario.
 ghost use mathlib.Core.Path.{_≡_};
 ghost use mathlib.Core.Bool.{cond, _&&_, _||_};
+ghost use mathlib.Core.Option.{none, some};
 ghost use Prim.Native.Nat.{_+_, _≤_, _<_};
 ghost use lib.ListN.{length, take, drop};
 ghost use denote.Ref.{ptr};
+ghost use Rattle.scenario_theory.specs.Distances.{ruptureOf, projectionOf};
 ghost use Rattle.record_theory.specs.Layout.{Bytes, layout, numberOf, absentWritten};
 ghost use Rattle.record_theory.specs.Outcome.{scenarioIn, readOf, restAt, restOf, ReadPromise};
-ghost use Rattle.record_theory.specs.Steps.{Complete, frontRefusal, fieldCheck, placedReadingOf, placeless};
+ghost use Rattle.record_theory.specs.Steps.{Complete, StandBy, frontRefusal, fieldCheck, basedReadingOf, readingIn};
 use record_map::ABSENT_MECHANISM;
 use record_map::ABSENT_PERIOD;
 use record_map::ABSENT_VELOCITY;
 use record_map::map_refusal;
 use record_map::more_if;
 use record_map::record_length;
-pub use record_theory::PlacedReading;
+pub use record_theory::BasedReading;
 pub use record_theory::Reading;
 use scenario_theory::Check;
+use scenario_theory::Projection;
+use scenario_theory::ProjectionDistance;
+use scenario_theory::Rupture;
+use scenario_theory::RuptureDistance;
 use scenario_theory::Scenario;
 
 fn byte(s: &[u8], at: usize) -> u8
@@ -54,24 +60,49 @@ fn word_or(s: &[u8], stands: bool, at: usize, absent: u16) -> u16
     absent
 }
 
+// A distance that stands, or none.
+fn rupture_if(s: &[u8], stands: bool, at: usize) -> Rupture
+    requires { ⌜ at + cond stands 2 0 ≤ length (now s) ⌝ }
+    ensures { λ r. ⌜ r ≡ ruptureOf (cond stands (some (numberOf (take 2 (drop at (now (s .entry)))))) none) ⌝ }
+{
+    if stands {
+        return Rupture::At(RuptureDistance(word(s, at)));
+    }
+    Rupture::Absent
+}
+
+fn projection_if(s: &[u8], stands: bool, at: usize) -> Projection
+    requires { ⌜ at + cond stands 2 0 ≤ length (now s) ⌝ }
+    ensures { λ r. ⌜ r ≡ projectionOf (cond stands (some (numberOf (take 2 (drop at (now (s .entry)))))) none) ⌝ }
+{
+    if stands {
+        return Projection::At(ProjectionDistance(word(s, at)));
+    }
+    Projection::Absent
+}
+
 // The scenario of the record at the front of s.
 fn fields(s: &[u8]) -> Scenario
     requires { ⌜ Complete (now s) ⌝ }
     ensures { λ r. ⌜ r ≡ scenarioIn (now (s .entry)) ⌝ }
 {
     let m = s[0];
+    let rupture = m / 4 % 2 == 1;
     let velocity = m / 8 % 2 == 1;
     let mechanism = m / 16 % 2 == 1;
     let period = m / 32 % 2 == 1;
-    let mechanism_at = more_if(6, velocity, 2);
+    let velocity_at = more_if(4, rupture, 2);
+    let mechanism_at = more_if(velocity_at, velocity, 2);
     let period_at = more_if(mechanism_at, mechanism, 1);
+    let projection_at = more_if(period_at, period, 2);
     Scenario {
         model: byte(s, 1),
         magnitude: word(s, 2),
-        distance: word(s, 4),
-        velocity: word_or(s, velocity, 6, ABSENT_VELOCITY),
+        rupture: rupture_if(s, rupture, 4),
+        velocity: word_or(s, velocity, velocity_at, ABSENT_VELOCITY),
         mechanism: byte_or(s, mechanism, mechanism_at, ABSENT_MECHANISM),
         period: word_or(s, period, period_at, ABSENT_PERIOD),
+        projection: projection_if(s, m / 64 % 2 == 1, projection_at),
     }
 }
 
@@ -96,8 +127,9 @@ fn any(a: bool, b: bool, c: bool) -> bool
     c
 }
 
-// A field of x that stands in the map m has its absent number.
+// A field of x that stands in the map m has its absent number; a distance has none.
 fn absent_written(m: u8, x: Scenario) -> bool
+    requires { ⌜ StandBy m x ⌝ }
     ensures { λ r. ⌜ r ≡ absentWritten layout m x ⌝ }
 {
     any(
@@ -125,39 +157,43 @@ fn front_refusal(s: &[u8]) -> u8
     0
 }
 
-// The checks of the fields, with the place of the period.
+// The checks of the fields, with what an answer rests on.
 fn field_check(m: u8, x: Scenario) -> Check
+    requires { ⌜ StandBy m x ⌝ }
     ensures { λ r. ⌜ r ≡ fieldCheck m x ⌝ }
 {
     if absent_written(m, x) {
         return Check::Refused(11);
     }
+    let rupture = x.rupture;
+    let projection = x.projection;
     scenario::check(
         x.model,
         x.magnitude,
-        x.distance,
+        rupture,
         x.velocity,
         x.mechanism,
         x.period,
+        projection,
     )
 }
 
-// Reads the record at the front of s, with the place of the period, so that nobody has to look it up again.
-pub fn read_with_place(s: &[u8]) -> PlacedReading
-    ensures { λ r. ⌜ r ≡ placedReadingOf (now (s .entry)) ⌝ }
-    ensures { λ r. ⌜ ReadPromise (now (s .entry)) (placeless r) ⌝ }
+// Reads the record at the front of s, with what an answer rests on, so that nobody has to look it up again.
+pub fn read_with_basis(s: &[u8]) -> BasedReading
+    ensures { λ r. ⌜ r ≡ basedReadingOf (now (s .entry)) ⌝ }
+    ensures { λ r. ⌜ ReadPromise (now (s .entry)) (readingIn r) ⌝ }
     ensures { λ _. ⌜ Bytes (now (s .entry)) ⌝ }
 {
     let front = front_refusal(s);
     if front != 0 {
-        return PlacedReading::Refused(front);
+        return BasedReading::Refused(front);
     }
     let m = s[0];
     let x = fields(s);
     let c = field_check(m, x);
     match c {
-        Check::Accepted(place) => PlacedReading::Read(x, record_length(m), place),
-        Check::Refused(k) => PlacedReading::Refused(k),
+        Check::Accepted(basis) => BasedReading::Read(x, record_length(m), basis),
+        Check::Refused(k) => BasedReading::Refused(k),
     }
 }
 
@@ -167,9 +203,9 @@ pub fn read(s: &[u8]) -> Reading
     ensures { λ r. ⌜ ReadPromise (now (s .entry)) r ⌝ }
     ensures { λ _. ⌜ Bytes (now (s .entry)) ⌝ }
 {
-    match read_with_place(s) {
-        PlacedReading::Read(x, n, _) => Reading::Read(x, n),
-        PlacedReading::Refused(k) => Reading::Refused(k),
+    match read_with_basis(s) {
+        BasedReading::Read(x, n, _) => Reading::Read(x, n),
+        BasedReading::Refused(k) => Reading::Refused(k),
     }
 }
 

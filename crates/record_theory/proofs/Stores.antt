@@ -4,6 +4,7 @@ use mathlib.Core.List.{List, _∷_, _++_, append-nil, append-assoc}
 use Prim.Native.Nat.{ℕ, _+_, _≤_}
 use native.Mathlib.Omega.{arith}
 use lib.ListN.{length, take, drop, length-append}
+use lib.Seq.{sets}
 use Rattle.scenario_theory.specs.declared.Scenario.{Scenario}
 use Rattle.stores_theory.specs.Stores.{Put}
 use Rattle.stores_theory.proofs.StoreLaws.{sets-front, put-then}
@@ -53,8 +54,10 @@ module _ (x : Scenario) where
   all-parts m e = rw e (simp append-assoc refl)
 
   pub record-stores : (m : ℕ) (l : List ℕ) {l1 l2 l3 : List ℕ} {a b : ℕ} → m ≡ mapOf layout x →
-      Put 0 (m ∷ partsOf (take 2 layout) x) l 4 l1 → Put 4 (partsOf (take 3 (drop 2 layout)) x) l1 a l2 →
+      l1 ≡ sets l 0 (m ∷ partsOf (take 2 layout) x) → Put 4 (partsOf (take 3 (drop 2 layout)) x) l1 a l2 →
       Put a (partsOf (drop 5 layout) x) l2 b l3 → length (recordOf x) ≤ length l →
       l3 ≡ recordOf x ++ drop (length (recordOf x)) l
-  record-stores m l e head middle end h =
+  unfolding partsOf
+  record-stores m l {l1} e front middle end h =
+      let head : Put 0 (m ∷ partsOf (take 2 layout) x) l 4 l1 = record { place = refl; bytes = front } in
       put-then head (put-then middle end) .bytes ∙ rw (all-parts m e) (sets-front l (recordOf x) h)

@@ -5,8 +5,8 @@ use Rattle.record_theory.proofs.MapLaws.{map-checked}
 use Rattle.record_map.proofs.map_refusal.Statement.{statement}
 use Rattle.record_map.proofs.map_refusal.Tie as tie
 
-bit-6-or-7 : tie.Need-returns
-bit-6-or-7 c = simp (le-leb _ _ (c .if1 .taken)) at (map-checked (c .before .args .m) (omega arith))
+bit-7 : tie.Need-returns
+bit-7 c = simp (le-leb _ _ (c .if1 .taken)) at (map-checked (c .before .args .m) (omega arith))
 
 bit-clear : tie.Need-returns-2
 bit-clear c =
@@ -24,4 +24,4 @@ passes c =
     (map-checked (c .before .before .before .args .m) (omega arith))
 
 pub map-refusal-spec : {M : Type 1} → statement M
-map-refusal-spec = tie.close (tie.spec bit-6-or-7 bit-clear no-bit passes)
+map-refusal-spec = tie.close (tie.spec bit-7 bit-clear no-bit passes)

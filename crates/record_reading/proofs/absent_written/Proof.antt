@@ -11,5 +11,6 @@ absent-written-spec =
     (λ c κs. search needs) (λ c κs. search needs) (λ c κs. search needs) (λ c κs. search needs)
     (λ c.
     let mechanism = c .before .before .before in
-    absent-written-is _ _ (c .any .ensures) (mechanism .before .before .both .ensures) (mechanism .both2 .ensures)
-    (c .before .both3 .ensures)))
+    let velocity = mechanism .before .before in
+    absent-written-is _ _ (velocity .before .before .pre) (c .any .ensures) (velocity .both .ensures)
+    (mechanism .both2 .ensures) (c .before .both3 .ensures)))

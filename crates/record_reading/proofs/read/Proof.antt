@@ -11,8 +11,8 @@ read-spec =
     (tie.spec
     (λ c κs. search needs) (λ c. search needs) (λ c. search needs)
     (λ c.
-    let k = rw (c .before .x .given .1) at (c .before .before .before .read-with-place .ensures) in
+    let k = rw (c .before .x .given .1) at (c .before .before .before .read-with-basis .ensures) in
     (read-of _ (sym (k .0)) .0, k .1))
     (λ c.
-    let k = rw (c .before .k .given .1) at (c .before .before .before .read-with-place .ensures) in
+    let k = rw (c .before .k .given .1) at (c .before .before .before .read-with-basis .ensures) in
     (read-of _ (sym (k .0)) .0, k .1)))

@@ -16,5 +16,4 @@ put-head-spec =
     tie.close
     (tie.spec
     (λ c. search needs) (λ c. simp length-set (omega arith)) (λ c. search needs) (λ c. simp length-set (omega arith))
-    (λ c. search needs) (λ c. simp length-set (omega arith)) (λ c. search needs) (λ c. simp length-set (omega arith))
     (λ c. search needs) (λ c. search needs) (λ c. search needs) returns)

@@ -18,17 +18,28 @@ too-few c =
     let e = sym (m .before .before .refusal .ensures) ∙ m .before .if1 .left in
     no-room _ _ e (length-written _ (c .before .record-length .ensures) (m .map-byte .ensures)) (c .if2 .taken)
 
+-- the place after the middle, and room for the rest
+end-fits : tie.Need-put-end-requires
+end-fits c κs =
+    let middle = c .before .before .before in
+    let n = middle .before .before .before .before .before .before .before in
+    let x = n .before .before .before .before .before .args .x in
+    let size = length-written x (n .record-length .ensures) (n .before .map-byte .ensures) in
+    omega (arith, record-length x, size, middle .put-middle .ensures .place)
+
 written : tie.Need-returns-3
 written c =
-    let t = c .before .before in
-    let h = t .before .before .before .before in
-    let n = h .before .before .before in
+    let end = c .before .before in
+    let middle = end .before .before .before .before in
+    let head = middle .before .before .before .before in
+    let n = head .before .before .before in
     let k = n .before .before .before in
+    let x = k .before .before .args .x in
     let e = sym (k .refusal .ensures) ∙ n .before .before .if1 .left in
     let m = n .before .map-byte .ensures in
-    let size = length-written (k .before .before .args .x) (n .record-length .ensures) m in
+    let size = length-written x (n .record-length .ensures) m in
     is-written _ _ e size (omega arith)
-    (record-stores _ _ _ _ _ m (h .put-head .ensures) (t .put-tail .ensures) (omega arith))
+    (record-stores x _ _ m (head .put-head .ensures) (middle .put-middle .ensures) (end .put-end .ensures) (omega arith))
 
 pub write-spec : {M : Type 1} → statement M
 write-spec =
@@ -43,4 +54,4 @@ write-spec =
     (λ c κs. let n = c .before .before .before .before .before .before in
     let x = n .before .before .before .before .before .args .x in
     omega (arith, record-length x, length-written x (n .record-length .ensures) (n .before .map-byte .ensures)))
-    (λ c. search needs) written)
+    end-fits (λ c. search needs) written)

@@ -1,20 +1,20 @@
--- `read_with_place` meets its contract.
+-- `read_with_basis` meets its contract.
 use mathlib.Core.Path.{_≡_, sym, _∙_}
 use native.Mathlib.Omega.{arith}
 use borrow.Author.Needs.{needs}
-use Rattle.record_theory.specs.declared.PlacedReading.{PlacedReading}
+use Rattle.record_theory.specs.declared.BasedReading.{BasedReading}
 use Rattle.record_theory.specs.Layout.{Bytes}
 use Rattle.record_theory.specs.Outcome.{mapIn, scenarioIn, ReadPromise}
-use Rattle.record_theory.specs.Steps.{frontRefusal, fieldCheck, placedReadingOf, placeless}
-use Rattle.record_theory.proofs.FieldLaws.{length-is}
+use Rattle.record_theory.specs.Steps.{frontRefusal, fieldCheck, basedReadingOf, readingIn}
+use Rattle.record_theory.proofs.FieldLaws.{length-is, distances-read}
 use Rattle.record_theory.proofs.ReadingLaws.{front-passes, refused-front, refused-fields, is-read, read-of}
-use Rattle.record_reading.proofs.read_with_place.Statement.{statement}
-use Rattle.record_reading.proofs.read_with_place.Tie as tie
+use Rattle.record_reading.proofs.read_with_basis.Statement.{statement}
+use Rattle.record_reading.proofs.read_with_basis.Tie as tie
 
 -- the promise is that of the reading; the elements of a slice of u8 are bytes
-promised : (c : tie.After-shared-slice-known) {r : PlacedReading} →
+promised : (c : tie.After-shared-slice-known) {r : BasedReading} →
     let s = c .before .args .s .now in
-    r ≡ placedReadingOf s → (r ≡ placedReadingOf s) × (ReadPromise s (placeless r) × Bytes s)
+    r ≡ basedReadingOf s → (r ≡ basedReadingOf s) × (ReadPromise s (readingIn r) × Bytes s)
 promised c e = (e, (read-of _ (sym e) .1, λ i. omega (arith, c .shared-slice-known .given i)))
 
 -- the checks of the front pass
@@ -42,14 +42,15 @@ fields-refused c =
     let e = k .before .before .before in
     promised (e .before .before) (refused-fields _ (front e) (checked k ∙ told .c2 .given .1))
 
-pub read-with-place-spec : {M : Type 1} → statement M
-read-with-place-spec =
+pub read-with-basis-spec : {M : Type 1} → statement M
+read-with-basis-spec =
     tie.close
     (tie.spec
     (λ c κs. search needs)
     (λ c. promised (c .before .before) (refused-front _ _ (c .before .front-refusal .ensures) (c .if1 .taken)))
     (λ c. let f = front-passes _ (front (c .before)) in omega (arith, length-is _ (f .passes)))
     (λ c κs. front-passes _ (front (c .before)))
-    (λ c κs. search needs) (λ c. search needs)
+    (λ c κs. rw (c .fields .ensures) (distances-read _ (front-passes _ (front (c .before .before)) .passes)))
+    (λ c. search needs)
     (λ c κs. front-passes _ (front (c .before .before .before .before .before .before)) .passes)
     (λ c. search needs) read fields-refused)
