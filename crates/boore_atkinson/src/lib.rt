@@ -17,12 +17,13 @@ use interval::plus;
 use interval_theory::Ends;
 use interval_theory::SignedEnds;
 use interval_theory::SignedPair;
+use scenario_theory::ProjectionDistance;
 
 // What the nonlinear part has over the slope, which all rows have in common: from 760 m/s on the slope is 0, p has no
 // part in it, and 0 stands for it.
-fn curve_for(v: u64, m: u64, d: u64, mechanism: u8) -> Ends
-    requires { ⌜ (500 ≤ m) × (m ≤ 800) × (d ≤ 19_999) ⌝ }
-    ensures { λ q. ⌜ (q ≡ curveFor v m d mechanism) × Sized q curveMost curveMost ⌝ }
+fn curve_for(v: u64, m: u64, d: ProjectionDistance, mechanism: u8) -> Ends
+    requires { ⌜ (500 ≤ m) × (m ≤ 800) × (d .0 ≤ 19_999) ⌝ }
+    ensures { λ q. ⌜ (q ≡ curveFor v m (d .0) mechanism) × Sized q curveMost curveMost ⌝ }
 {
     if 7_600 <= v {
         return Ends { low: 0, high: 0 };
@@ -32,18 +33,18 @@ fn curve_for(v: u64, m: u64, d: u64, mechanism: u8) -> Ends
 
 // The median by row k of the tables, 0 for PGA, as a gain less a loss. What rows have in common is worked out before:
 // l, the absolute value of ln(V/760), and q, what the nonlinear part has over the slope.
-pub fn median_by_row(
+fn median_by_row(
     k: usize,
     m: u64,
-    d: u64,
+    d: ProjectionDistance,
     v: u64,
     l: Ends,
     q: Ends,
     mechanism: u8,
 ) -> SignedPair
-    requires { ⌜ MedianDomain k m d v × (l ≡ vs30LnOf v) ⌝ }
-    requires { ⌜ (q ≡ curveFor v m d mechanism) × Sized q curveMost curveMost ⌝ }
-    ensures { λ a. ⌜ a ≡ medianPairOf (rowAt k) m d v mechanism ⌝ }
+    requires { ⌜ MedianDomain k m (d .0) v × (l ≡ vs30LnOf v) ⌝ }
+    requires { ⌜ (q ≡ curveFor v m (d .0) mechanism) × Sized q curveMost curveMost ⌝ }
+    ensures { λ a. ⌜ a ≡ medianPairOf (rowAt k) m (d .0) v mechanism ⌝ }
 {
     let row = table::distance_at(k);
     let effective = rock::effective_distance(d, row.4 as u64);
@@ -58,20 +59,19 @@ pub fn median_by_row(
 pub fn median(
     k: usize,
     magnitude: u16,
-    projection_distance: u16,
+    projection_distance: ProjectionDistance,
     vs30: u16,
     mechanism: u8,
 ) -> SignedEnds
-    requires { ⌜ MedianDomain k magnitude «projection_distance» vs30 ⌝ }
-    ensures { λ r. ⌜ r ≡ medianOf (rowAt k) magnitude «projection_distance» vs30 mechanism ⌝ }
-    ensures { λ r. ⌜ MedianEnds (rowAt k) magnitude «projection_distance» vs30 mechanism r ⌝ }
+    requires { ⌜ MedianDomain k magnitude («projection_distance» .0) vs30 ⌝ }
+    ensures { λ r. ⌜ r ≡ medianOf (rowAt k) magnitude («projection_distance» .0) vs30 mechanism ⌝ }
+    ensures { λ r. ⌜ MedianEnds (rowAt k) magnitude («projection_distance» .0) vs30 mechanism r ⌝ }
 {
     let m = magnitude as u64;
-    let d = projection_distance as u64;
     let v = vs30 as u64;
-    let q = curve_for(v, m, d, mechanism);
+    let q = curve_for(v, m, projection_distance, mechanism);
     let l = site::vs30_ln(v);
-    ends(median_by_row(k, m, d, v, l, q, mechanism))
+    ends(median_by_row(k, m, projection_distance, v, l, q, mechanism))
 }
 
 // The medians by row `last` and, where k is less, by the row before it. What rows have in common is worked out once: p,
@@ -80,25 +80,24 @@ pub fn median_rows(
     k: usize,
     last: usize,
     magnitude: u16,
-    projection_distance: u16,
+    projection_distance: ProjectionDistance,
     vs30: u16,
     mechanism: u8,
 ) -> TwoRows
-    requires { ⌜ MedianDomain last magnitude «projection_distance» vs30 × (k ≤ last) ⌝ }
-    ensures { λ r. ⌜ r ≡ twoRowsOf k last (λ j. medianPairOf (rowAt j) magnitude «projection_distance» vs30
+    requires { ⌜ MedianDomain last magnitude («projection_distance» .0) vs30 × (k ≤ last) ⌝ }
+    ensures { λ r. ⌜ r ≡ twoRowsOf k last (λ j. medianPairOf (rowAt j) magnitude («projection_distance» .0) vs30
         mechanism) ⌝ }
 {
     let m = magnitude as u64;
-    let d = projection_distance as u64;
     let v = vs30 as u64;
-    let q = curve_for(v, m, d, mechanism);
+    let q = curve_for(v, m, projection_distance, mechanism);
     let l = site::vs30_ln(v);
     let mut lower = no_pair();
     let mut upper = no_pair();
     let mut i = k;
     while i <= last {
         lower = upper;
-        upper = median_by_row(i, m, d, v, l, q, mechanism);
+        upper = median_by_row(i, m, projection_distance, v, l, q, mechanism);
         i += 1;
     }
     TwoRows { lower, upper }

@@ -13,13 +13,15 @@ use boore_atkinson_theory::Exact;
 use boore_atkinson_theory::MagnitudeRow;
 use interval_theory::Ends;
 use interval_theory::SignedPair;
+use scenario_theory::ProjectionDistance;
 
 // R, from a projection distance and h.
-pub fn effective_distance(projection_distance: u64, h: u64) -> EffectiveDistance
-    requires { ⌜ («projection_distance» ≤ 19_999) × (100 ≤ h) × (h ≤ 400) ⌝ }
-    ensures { λ s. ⌜ (s ≡ effectiveOf «projection_distance» h) × EffectiveSized s ⌝ }
+pub fn effective_distance(projection_distance: ProjectionDistance, h: u64) -> EffectiveDistance
+    requires { ⌜ («projection_distance» .0 ≤ 19_999) × (100 ≤ h) × (h ≤ 400) ⌝ }
+    ensures { λ s. ⌜ (s ≡ effectiveOf («projection_distance» .0) h) × EffectiveSized s ⌝ }
 {
-    let x = projection_distance * projection_distance + h * h;
+    let d = projection_distance.0 as u64;
+    let x = d * d + h * h;
     let k = logarithm::root(x);
     EffectiveDistance {
         ln: logarithm::ln(x, 10_000),
@@ -122,9 +124,9 @@ pub fn rock(
 }
 
 // −p, p the logarithm of the rock acceleration.
-pub fn minus_p(m: u64, projection_distance: u64, mechanism: u8) -> Ends
-    requires { ⌜ (500 ≤ m) × (m ≤ 800) × («projection_distance» ≤ 19_999) ⌝ }
-    ensures { λ b. ⌜ (b ≡ minusPOf m «projection_distance» mechanism) × Sized b 4 rockMost ⌝ }
+pub fn minus_p(m: u64, projection_distance: ProjectionDistance, mechanism: u8) -> Ends
+    requires { ⌜ (500 ≤ m) × (m ≤ 800) × («projection_distance» .0 ≤ 19_999) ⌝ }
+    ensures { λ b. ⌜ (b ≡ minusPOf m («projection_distance» .0) mechanism) × Sized b 4 rockMost ⌝ }
 {
     let r = boore_atkinson_tables::pga_distance();
     let s = effective_distance(projection_distance, r.4 as u64);

@@ -19,6 +19,7 @@ use interpolation_theory::TwoRows;
 use interval_theory::Ends;
 use interval_theory::SignedEnds;
 use interval_theory::SignedPair;
+use scenario_theory::RuptureDistance;
 
 // a1 + a2 M + a3 (8.5 − M)², where none of the three is below zero.
 fn alpha_sum(a1: u32, a2: u32, a3: u32, m: u64) -> u64
@@ -91,7 +92,7 @@ fn site_term(r: Row, l: Ends) -> Ends
 
 // The median by row k of Table 3 where `table_3`, else of Table 2, as a gain less a loss. What rows have in common is
 // worked out before: ln(R + 10) and ln V.
-pub fn median_by_row(
+fn median_by_row(
     table_3: bool,
     k: usize,
     m: u64,
@@ -123,15 +124,15 @@ pub fn median(
     table_3: bool,
     k: usize,
     magnitude: u16,
-    rupture_distance: u16,
+    rupture_distance: RuptureDistance,
     vs30: u16,
     mechanism: u8,
 ) -> SignedEnds
-    requires { ⌜ MedianDomain k magnitude «rupture_distance» vs30 ⌝ }
-    ensures { λ r. ⌜ r ≡ medianOf (rowAt «table_3» k) magnitude «rupture_distance» vs30 mechanism ⌝ }
-    ensures { λ r. ⌜ MedianEnds (rowAt «table_3» k) magnitude «rupture_distance» vs30 mechanism r ⌝ }
+    requires { ⌜ MedianDomain k magnitude («rupture_distance» .0) vs30 ⌝ }
+    ensures { λ r. ⌜ r ≡ medianOf (rowAt «table_3» k) magnitude («rupture_distance» .0) vs30 mechanism ⌝ }
+    ensures { λ r. ⌜ MedianEnds (rowAt «table_3» k) magnitude («rupture_distance» .0) vs30 mechanism r ⌝ }
 {
-    let d = rupture_distance as u64;
+    let d = rupture_distance.0 as u64;
     let ln_r = distance_ln(d);
     let ln_v = vs30_ln(vs30 as u64);
     interval::ends(median_by_row(table_3, k, magnitude as u64, d, ln_r, ln_v, mechanism))
@@ -144,16 +145,16 @@ pub fn median_rows(
     k: usize,
     last: usize,
     magnitude: u16,
-    rupture_distance: u16,
+    rupture_distance: RuptureDistance,
     vs30: u16,
     mechanism: u8,
 ) -> TwoRows
-    requires { ⌜ MedianDomain last magnitude «rupture_distance» vs30 × (k ≤ last) ⌝ }
-    ensures { λ r. ⌜ r ≡ twoRowsOf k last (λ j. medianPairOf (rowAt «table_3» j) magnitude «rupture_distance» vs30
+    requires { ⌜ MedianDomain last magnitude («rupture_distance» .0) vs30 × (k ≤ last) ⌝ }
+    ensures { λ r. ⌜ r ≡ twoRowsOf k last (λ j. medianPairOf (rowAt «table_3» j) magnitude («rupture_distance» .0) vs30
         mechanism) ⌝ }
 {
     let m = magnitude as u64;
-    let d = rupture_distance as u64;
+    let d = rupture_distance.0 as u64;
     let ln_r = distance_ln(d);
     let ln_v = vs30_ln(vs30 as u64);
     let mut lower = no_pair();

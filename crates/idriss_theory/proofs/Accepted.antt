@@ -1,12 +1,11 @@
--- The fields of an accepted scenario are arguments of the median.
+-- Fields that are within the limits are arguments of the median.
 use Prim.Native.Nat.{ℕ, _<_}
 use native.Mathlib.Omega.{arith}
-use Rattle.scenario_theory.specs.declared.Scenario.{Scenario}
 use Rattle.scenario_theory.specs.Refusal.{idriss}
 use Rattle.scenario_theory.specs.Rows.{rowCount}
-use Rattle.scenario_theory.proofs.RefusalLaws.{Within}
+use Rattle.scenario_theory.specs.Accepted.{Within}
 use Rattle.idriss_theory.specs.Promise.{MedianDomain}
 
-pub median-domain : {k : ℕ} (s : Scenario) → k < rowCount → Within idriss s →
-    MedianDomain k (s .magnitude) (s .distance) (s .velocity)
-median-domain s row w = omega arith
+pub median-domain : {k M R Vs mechanism T : ℕ} → k < rowCount → Within idriss M R Vs mechanism T →
+    MedianDomain k M R Vs
+median-domain row w = omega arith

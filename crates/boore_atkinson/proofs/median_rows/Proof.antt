@@ -10,11 +10,11 @@ use Rattle.boore_atkinson.proofs.median_rows.Statement.{statement}
 use Rattle.boore_atkinson.proofs.median_rows.Tie as tie
 
 abbrev Inv-loop : tie.InvT-loop
-Inv-loop k last magnitude projection-distance vs30 mechanism m d v q l lower₀ upper₀ i₀ lower upper i =
-    Passed k (λ j. medianPairOf (rowAt j) m d v mechanism) lower upper i × (i ≤ last + 1)
+Inv-loop k last magnitude projection-distance vs30 mechanism m v q l lower₀ upper₀ i₀ lower upper i =
+    Passed k (λ j. medianPairOf (rowAt j) m (projection-distance .0) v mechanism) lower upper i × (i ≤ last + 1)
 
 abbrev μ-loop : tie.MeasureT-loop
-μ-loop k last magnitude projection-distance vs30 mechanism m d v q l lower₀ upper₀ i₀ lower upper i = last + 1 - i
+μ-loop k last magnitude projection-distance vs30 mechanism m v q l lower₀ upper₀ i₀ lower upper i = last + 1 - i
 
 takes : tie.Need-median-by-row-requires Inv-loop μ-loop
 takes c κs =
