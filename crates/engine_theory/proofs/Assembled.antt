@@ -11,10 +11,12 @@ use Rattle.interpolation_theory.specs.declared.TwoRows.{TwoRows}
 use Rattle.interpolation_theory.specs.Evaluation.{twoRowsOf, interpolatedOf, InterpolationDomain}
 use Rattle.scenario_theory.specs.declared.Scenario.{Scenario}
 use Rattle.scenario_theory.specs.declared.Place.the-variants as P
+use Rattle.scenario_theory.specs.declared.Basis.{Basis}
+use Rattle.scenario_theory.specs.declared.Basis.the-variants as B
 use Rattle.scenario_theory.specs.Refusal.{idriss, booreAtkinson}
 use Rattle.scenario_theory.specs.Neighbours.{neighbourBelow, neighbourAbove}
 use Rattle.scenario_theory.specs.Rows.{idrissRow, booreAtkinsonRow}
-use Rattle.scenario_theory.proofs.RefusalLaws.{within-idriss, within-boore-atkinson}
+use Rattle.scenario_theory.specs.Accepted.{Placed, BasisIn}
 use Rattle.scenario_theory.proofs.RowLaws.{idriss-row, boore-atkinson-row}
 use Rattle.idriss_theory.specs.Tables.{takesTable3}
 use Rattle.idriss_theory.specs.Evaluation.{medianOf as idrissMedianOf, medianBetweenOf as idrissBetweenOf}
@@ -31,10 +33,17 @@ use Rattle.boore_atkinson_theory.proofs.Accepted.{median-domain as boore-atkins
 use Rattle.boore_atkinson_theory.proofs.Laws.{medianPairOf-sized as boore-atkinson-sized}
 use Rattle.boore_atkinson_theory.proofs.Between.{between-takes as boore-atkinson-takes, sigma-takes}
 use Rattle.engine_theory.specs.declared.Enclosure.{Enclosure}
-use Rattle.engine_theory.specs.Steps.{TakenBy, stepAround, idrissRowsOf, booreAtkinsonRowsOf}
-use Rattle.engine_theory.specs.Evaluation.{enclosureOf}
-use Rattle.engine_theory.proofs.RowLaws.{idriss-tabled, boore-atkinson-tabled, taken-at-row}
-use Rattle.engine_theory.proofs.RowLaws.{taken-on-step, not-first}
+use Rattle.engine_theory.specs.Steps.{enclosureOn, stepAround, idrissRowsOf, booreAtkinsonRowsOf}
+use Rattle.engine_theory.specs.Evaluation.{idrissEnclosureOf, booreAtkinsonEnclosureOf, enclosureOf}
+use Rattle.engine_theory.proofs.RowLaws.{idriss-tabled, boore-atkinson-tabled, placed-at-row}
+use Rattle.engine_theory.proofs.RowLaws.{placed-on-step, not-first}
+
+-- by the basis of a scenario: the distance that the other model reads has no part in it
+pub on-basis : (s : Scenario) (b : Basis) → BasisIn s b →
+    enclosureOn (s .magnitude) (s .velocity) (s .mechanism) (s .period) b ≡ enclosureOf s
+unfolding enclosureOf
+on-basis s (B.Idriss d p) (model, reads) = rw (model, reads) refl
+on-basis s (B.BooreAtkinson d p) (model, reads) = rw (model, reads) refl
 
 -- the rows k and k + 1
 both-rows : (k : ℕ) (by-row : ℕ → SignedPair) →
@@ -44,110 +53,108 @@ both-rows k by-row =
     let here : k + 1 - 1 ≡ k = omega arith in
     rw (lt-ltb k (k + 1) (omega arith), here) refl
 
-module _ {s : Scenario} {k : ℕ} where
+module _ {M R Vs mechanism T k : ℕ} where
   -- ---- Idriss
 
-  module _ (t : TakenBy 1 idriss idrissRow s (P.Row k)) where
-    pub idriss-moderate : Moderate (idrissRowsOf s k k .upper)
+  module _ (t : Placed idriss idrissRow M R Vs mechanism T (P.Row k)) where
+    pub idriss-moderate : Moderate (idrissRowsOf M R Vs mechanism k k .upper)
     unfolding twoRowsOf
     idriss-moderate =
-        let r = taken-at-row t in
-        let w = within-idriss s (t .model) (t .accepted) in
-        let d = idriss-median-domain {k = k} s (rw (r .1) (idriss-row _ (r .0))) w in
-        moderate (idriss-sized (takesTable3 (s .magnitude)) (s .mechanism) d) (omega arith)
+        let r = placed-at-row t in
+        let d = idriss-median-domain {k = k} (rw (r .1) (idriss-row _ (r .0))) (t .within) in
+        moderate (idriss-sized (takesTable3 M) mechanism d) (omega arith)
 
     pub idriss-at-row :
         _≡_ {A = Enclosure}
-        record { median = endsOf (idrissRowsOf s k k .upper); sigma = idrissSigmaOf (s .period) (s .magnitude) }
-        (enclosureOf s)
-    unfolding enclosureOf idrissMedianOf twoRowsOf
+        record { median = endsOf (idrissRowsOf M R Vs mechanism k k .upper); sigma = idrissSigmaOf T M }
+        (idrissEnclosureOf M R Vs mechanism T)
+    unfolding idrissEnclosureOf idrissMedianOf twoRowsOf
     idriss-at-row =
-        let r = taken-at-row t in
-        rw (t .model, r .0, r .1, idriss-row-at (takesTable3 (s .magnitude)) (s .period)) refl
+        let r = placed-at-row t in
+        rw (r .0, r .1, idriss-row-at (takesTable3 M) T) refl
 
-  module _ (t : TakenBy 1 idriss idrissRow s (P.Between k)) where
+  module _ (t : Placed idriss idrissRow M R Vs mechanism T (P.Between k)) where
     abbrev rows : TwoRows
-    rows = idrissRowsOf s k (k + 1)
+    rows = idrissRowsOf M R Vs mechanism k (k + 1)
 
     pub idriss-interpolates :
-        let step = stepAround idriss (s .period) in
+        let step = stepAround idriss T in
         InterpolationDomain (rows .lower) (rows .upper) (step .part) (step .whole)
     idriss-interpolates =
-        let r = taken-on-step idriss-tabled t in
-        let d = idriss-median-domain s (r .on-step .last) (r .within) in
-        rw (r .row-is, both-rows) (idriss-takes (takesTable3 (s .magnitude)) (s .mechanism) d (r .on-step .step))
+        let r = placed-on-step idriss-tabled t in
+        let d = idriss-median-domain (r .on-step .last) (t .within) in
+        rw (r .row-is, both-rows) (idriss-takes (takesTable3 M) mechanism d (r .on-step .step))
 
     pub idriss-between-rows :
-        let step = stepAround idriss (s .period) in
+        let step = stepAround idriss T in
         _≡_ {A = Enclosure}
         record {
           median = interpolatedOf (rows .lower) (rows .upper) (step .part) (step .whole);
-          sigma = idrissSigmaOf (s .period) (s .magnitude);
-        } (enclosureOf s)
-    unfolding enclosureOf idrissBetweenOf
+          sigma = idrissSigmaOf T M;
+        } (idrissEnclosureOf M R Vs mechanism T)
+    unfolding idrissEnclosureOf idrissBetweenOf
     idriss-between-rows =
-        let r = taken-on-step idriss-tabled t in
-        let b = takesTable3 (s .magnitude) in
-        rw (t .model, r .none, r .row-is, both-rows, idriss-row-at b (neighbourBelow idriss (s .period)))
-        (rw (idriss-row-at b (neighbourAbove idriss (s .period)), r .on-step .rows .next) refl)
+        let r = placed-on-step idriss-tabled t in
+        let b = takesTable3 M in
+        rw (r .none, r .row-is, both-rows, idriss-row-at b (neighbourBelow idriss T))
+        (rw (idriss-row-at b (neighbourAbove idriss T), r .on-step .rows .next) refl)
 
   -- ---- Boore and Atkinson
 
-  module _ (t : TakenBy 2 booreAtkinson booreAtkinsonRow s (P.Row k)) where
-    pub boore-atkinson-moderate : Moderate (booreAtkinsonRowsOf s k k .upper)
+  module _ (t : Placed booreAtkinson booreAtkinsonRow M R Vs mechanism T (P.Row k)) where
+    pub boore-atkinson-moderate : Moderate (booreAtkinsonRowsOf M R Vs mechanism k k .upper)
     unfolding twoRowsOf
     boore-atkinson-moderate =
-        let r = taken-at-row t in
-        let w = within-boore-atkinson s (t .model) (t .accepted) in
-        let d = boore-atkinson-median-domain {k = k} s (rw (r .1) (boore-atkinson-row _ (r .0))) w in
-        moderate (boore-atkinson-sized (s .mechanism) d) (omega arith)
+        let r = placed-at-row t in
+        let d = boore-atkinson-median-domain {k = k} (rw (r .1) (boore-atkinson-row _ (r .0))) (t .within) in
+        moderate (boore-atkinson-sized mechanism d) (omega arith)
 
     pub boore-atkinson-at-row :
         _≡_ {A = Enclosure}
-        record { median = endsOf (booreAtkinsonRowsOf s k k .upper); sigma = sigmaOf (totalAt k) (s .mechanism) }
-        (enclosureOf s)
-    unfolding enclosureOf booreAtkinsonMedianOf twoRowsOf
+        record { median = endsOf (booreAtkinsonRowsOf M R Vs mechanism k k .upper); sigma = sigmaOf (totalAt k) mechanism }
+        (booreAtkinsonEnclosureOf M R Vs mechanism T)
+    unfolding booreAtkinsonEnclosureOf booreAtkinsonMedianOf twoRowsOf
     boore-atkinson-at-row =
-        let r = taken-at-row t in
-        rw (t .model, r .0, r .1, row-at (s .period), total-at (s .period)) refl
+        let r = placed-at-row t in
+        rw (r .0, r .1, row-at T, total-at T) refl
 
-  module _ (t : TakenBy 2 booreAtkinson booreAtkinsonRow s (P.Between k)) where
+  module _ (t : Placed booreAtkinson booreAtkinsonRow M R Vs mechanism T (P.Between k)) where
     abbrev medians : TwoRows
-    medians = booreAtkinsonRowsOf s k (k + 1)
+    medians = booreAtkinsonRowsOf M R Vs mechanism k (k + 1)
 
     abbrev sigmas : TwoRows
-    sigmas = twoRowsOf k (k + 1) (λ j. sigmaPairOf (totalAt j) (s .mechanism))
+    sigmas = twoRowsOf k (k + 1) (λ j. sigmaPairOf (totalAt j) mechanism)
 
     pub record Interpolates : Type 0 where
       pub median :
-          let step = stepAround booreAtkinson (s .period) in
+          let step = stepAround booreAtkinson T in
           InterpolationDomain (medians .lower) (medians .upper) (step .part) (step .whole)
       pub sigma :
-          let step = stepAround booreAtkinson (s .period) in
+          let step = stepAround booreAtkinson T in
           InterpolationDomain (sigmas .lower) (sigmas .upper) (step .part) (step .whole)
 
     pub boore-atkinson-interpolates : Interpolates
     boore-atkinson-interpolates =
-        let r = taken-on-step boore-atkinson-tabled t in
-        let d = boore-atkinson-median-domain s (r .on-step .last) (r .within) in
+        let r = placed-on-step boore-atkinson-tabled t in
+        let d = boore-atkinson-median-domain (r .on-step .last) (t .within) in
         record {
           median = rw (r .row-is, both-rows)
-              (boore-atkinson-takes (s .mechanism) (not-first (r .on-step .rows)) d (r .on-step .step));
+              (boore-atkinson-takes mechanism (not-first (r .on-step .rows)) d (r .on-step .step));
           sigma = rw (r .row-is, both-rows)
-              (sigma-takes (s .mechanism) (not-first (r .on-step .rows)) (r .on-step .last) (r .on-step .step));
+              (sigma-takes mechanism (not-first (r .on-step .rows)) (r .on-step .last) (r .on-step .step));
         }
 
     pub boore-atkinson-between-rows :
-        let step = stepAround booreAtkinson (s .period) in
+        let step = stepAround booreAtkinson T in
         _≡_ {A = Enclosure}
         record {
           median = interpolatedOf (medians .lower) (medians .upper) (step .part) (step .whole);
           sigma = interpolatedOf (sigmas .lower) (sigmas .upper) (step .part) (step .whole);
-        } (enclosureOf s)
-    unfolding enclosureOf booreAtkinsonBetweenOf sigmaBetweenOf
+        } (booreAtkinsonEnclosureOf M R Vs mechanism T)
+    unfolding booreAtkinsonEnclosureOf booreAtkinsonBetweenOf sigmaBetweenOf
     boore-atkinson-between-rows =
-        let r = taken-on-step boore-atkinson-tabled t in
-        let T1 = neighbourBelow booreAtkinson (s .period) in
-        let T2 = neighbourAbove booreAtkinson (s .period) in
-        rw (t .model, r .none, r .row-is, both-rows, both-rows, row-at T1, row-at T2, total-at T1, total-at T2)
+        let r = placed-on-step boore-atkinson-tabled t in
+        let T1 = neighbourBelow booreAtkinson T in
+        let T2 = neighbourAbove booreAtkinson T in
+        rw (r .none, r .row-is, both-rows, both-rows, row-at T1, row-at T2, total-at T1, total-at T2)
         (rw (r .on-step .rows .next) refl)

@@ -3,10 +3,10 @@ use mathlib.Core.Path.{_≡_, refl, ap, _∙_}
 use Prim.Native.Nat.{ℕ, zero, suc}
 use native.Mathlib.Omega.{arith}
 use Rattle.scenario_theory.specs.declared.Scenario.{Scenario}
-use Rattle.scenario_theory.specs.declared.Place.{Place}
+use Rattle.scenario_theory.specs.declared.Basis.{Basis}
 use Rattle.scenario_theory.specs.declared.Check.the-variants as C
 use Rattle.scenario_theory.specs.Refusal.{refusalOf}
-use Rattle.scenario_theory.specs.Rows.{checkOf}
+use Rattle.scenario_theory.specs.Accepted.{checkOf}
 use Rattle.scenario_theory.proofs.CheckLaws.{is-refused}
 use Rattle.scenario_theory.proofs.CheckedLaws.{passed, failed}
 use Rattle.engine_theory.specs.declared.Enclosure.{Enclosure}
@@ -18,8 +18,10 @@ use Rattle.engine_theory.specs.declared.Answer.the-variants as A
 use Rattle.engine_theory.specs.Promise.{AnswerPromise, DoublesPromise}
 use Rattle.engine_theory.specs.Ranges.{AnswerInRange}
 use Rattle.engine_theory.specs.Evaluation.{enclosureOf, answerBy, answerOf, SmallAnswer, doublesOf, inDoubles}
+use Rattle.engine_theory.specs.Steps.{enclosureOn}
 use Rattle.engine_theory.proofs.Exact.{equals}
 use Rattle.engine_theory.proofs.ModelLaws.{sound}
+use Rattle.engine_theory.proofs.Assembled.{on-basis}
 
 module _ (s : Scenario) where
   -- ---- an answer by the number k of a check that is 0 only where the scenario is accepted
@@ -66,10 +68,11 @@ module _ (s : Scenario) where
   unfolding answerOf answerBy
   fields-refused {k} e = let f = failed s e in rw (← f .number) (is-refused k _ (A.Refused k) (f .some))
 
-  pub fields-enclosed : {p : Place} {e : Enclosure} → checkOf s ≡ C.Accepted p → e ≡ enclosureOf s →
-      A.Enclosed e ≡ answerOf s
+  pub fields-enclosed : {b : Basis} {e : Enclosure} → checkOf s ≡ C.Accepted b →
+      e ≡ enclosureOn (s .magnitude) (s .velocity) (s .mechanism) (s .period) b → A.Enclosed e ≡ answerOf s
   unfolding answerOf answerBy
-  fields-enclosed c same = rw (passed s c .accepted) (ap A.Enclosed same)
+  fields-enclosed {b} c same =
+      let r = passed s c in rw (r .accepted) (ap A.Enclosed (same ∙ on-basis s b (r .basis)))
 
 -- ---- and the same in doubles
 

@@ -3,13 +3,15 @@ use mathlib.Core.Path.{_≡_, refl}
 use mathlib.Core.Bool.{Bool, true, false, cond}
 use mathlib.Core.Logic.{⊎-elim}
 use Prim.Native.Nat.{ℕ, _*_, _^_, _≤_}
+use native.Mathlib.Nat.{le-refl}
 use native.Mathlib.Omega.{arith}
 use lib.IntN.{ℤ, pos, _+ℤ_}
 use lib.Signed.{_≤ℤ_}
 use Rattle.toolbox_theory.specs.Whole.{up, down}
 use Rattle.toolbox_theory.proofs.Tests.{by-test}
 use Rattle.toolbox_theory.proofs.Whole.{≤ℤ-in, ≤ℤ-trans, add-is, within-more}
-use Rattle.exact_theory.specs.Formula.{Formula, ends, Encloses}
+use Rattle.exact_theory.specs.Pair.{Pair}
+use Rattle.exact_theory.specs.Formula.{Formula, Defined, ends, Encloses}
 use Rattle.exact_theory.proofs.UnitLaws.{in-order}
 use Rattle.interval_theory.specs.declared.SignedEnds.{SignedEnds}
 use Rattle.interval_theory.specs.Signed.{SmallerThan}
@@ -19,9 +21,10 @@ use Rattle.interpolation_theory.specs.Promise.{BetweenEnds}
 use Rattle.scenario_theory.specs.declared.Scenario.{Scenario}
 use Rattle.scenario_theory.specs.Refusal.{idriss, booreAtkinson, refusalOf}
 use Rattle.scenario_theory.specs.Neighbours.{hasRow, neighbourBelow, neighbourAbove}
-use Rattle.scenario_theory.proofs.RefusalLaws.{Within, of-model}
+use Rattle.scenario_theory.specs.Accepted.{Within}
+use Rattle.scenario_theory.proofs.RefusalLaws.{WithinBy, of-model}
 use Rattle.scenario_theory.proofs.RowLaws.{idriss-row, boore-atkinson-row}
-use Rattle.idriss_theory.specs.Tables.{table2, table3, takesTable3}
+use Rattle.idriss_theory.specs.Tables.{table2, table3, takesTable3, tableFor}
 use Rattle.idriss_theory.specs.Sigma.{sigma as idrissSigma}
 use Rattle.idriss_theory.specs.Evaluation.{sigmaOf as idrissSigmaOf}
 use Rattle.idriss_theory.specs.Promise as idrissPromise
@@ -39,14 +42,20 @@ use Rattle.boore_atkinson_theory.proofs.Laws.{sigmaOf-promise as boore-atkinson
 use Rattle.boore_atkinson_theory.proofs.Ranges.{medianOf-reaches as boore-atkinson-median-reaches}
 use Rattle.boore_atkinson_theory.proofs.Between.{medianBetweenOf-promise, sigmaBetweenOf-promise}
 use Rattle.engine_theory.specs.declared.Enclosure.{Enclosure}
-use Rattle.engine_theory.specs.Models.{idrissMedianBy, median, sigma, idrissWidth, booreAtkinsonWidth}
+use Rattle.engine_theory.specs.Models.{undefined, idrissMedianBy, median, sigma, idrissWidth, booreAtkinsonWidth}
 use Rattle.engine_theory.specs.Models.{widthAt, medianWidth, idrissSigmaWidth, sigmaBetweenWidth, sigmaWidth}
 use Rattle.engine_theory.specs.Models.{booreAtkinsonMedianBy, booreAtkinsonSigmaBy}
 use Rattle.engine_theory.specs.Promise.{EnclosedWithin}
 use Rattle.engine_theory.specs.Ranges.{medianLeast, medianMost, InRange}
 use Rattle.engine_theory.specs.Evaluation.{idrissMedianEnds, booreAtkinsonMedianEnds}
-use Rattle.engine_theory.specs.Evaluation.{booreAtkinsonSigmaEnds, enclosureOf, SmallEnclosure}
+use Rattle.engine_theory.specs.Evaluation.{booreAtkinsonSigmaEnds, idrissEnclosureOf, booreAtkinsonEnclosureOf}
+use Rattle.engine_theory.specs.Evaluation.{enclosureOf, SmallEnclosure}
 use Rattle.engine_theory.proofs.RowLaws.{idriss-tabled, boore-atkinson-tabled, on-step, not-first}
+
+-- what a model gives where its distance is absent is enclosed by nothing
+pub undefined-enclosed : {P : Pair} → Encloses P undefined → ⊥
+unfolding Defined
+undefined-enclosed h = let d = h .defined 1 (le-refl 1) in omega arith
 
 -- two ends enclose f, at most w units apart, and a double equals each
 pub record Ends (w : ℕ) (f : Formula) (e : SignedEnds) : Type 0 where
@@ -96,22 +105,23 @@ module _ (s : Scenario) where
   abbrev T : ℕ
   T = s .period
 
-  module _ (w : Within idriss s) where
+  module _ {R : ℕ} (w : Within idriss (s .magnitude) R (s .velocity) (s .mechanism) (s .period)) where
     -- by either table
     idriss-median : (isTable3 : Bool) →
         let table = cond isTable3 table3 table2 in
-        MedianEnds (widthAt idriss T idrissWidth) (idrissMedianBy table s) (idrissMedianEnds table s)
+        MedianEnds (widthAt idriss T idrissWidth) (idrissMedianBy table R s)
+        (idrissMedianEnds table (s .magnitude) R (s .velocity) (s .mechanism) T)
     idriss-median isTable3 =
         by-tabled MedianEnds (hasRow idriss T)
         (λ e.
-        let d = idriss-median-domain s (idriss-row T e) w in
+        let d = idriss-median-domain (idriss-row T e) w in
         let m = rw (← idriss-row-at isTable3 T) at (idriss-median-promise isTable3 (s .mechanism) d) in
         let r = rw (← idriss-row-at isTable3 T) at (idriss-median-reaches isTable3 (s .mechanism) d) in
         let own = ends-of _ idrissPromise.medianWidth idrissWidth (omega arith) (m .encloses) (m .narrow) (m .small) in
         median-ends own (omega arith) (omega arith) r)
         (λ e.
-        let b = on-step idriss-tabled T e (w .period) in
-        let d = idriss-median-domain s (b .last) w in
+        let b = on-step idriss-tabled T e (w .period-answered) in
+        let d = idriss-median-domain (b .last) w in
         let m =
         rw (
           ← b .rows .next,
@@ -129,35 +139,35 @@ module _ (s : Scenario) where
         by-test (hasRow idriss T) (λ w. idrissPromise.sigmaWidth ≤ w) (λ _. omega arith) (λ _. omega arith) in
         ends-of _ idrissPromise.sigmaWidth _ width (g .encloses) (g .narrow) (g .small)
 
-  module _ (w : Within booreAtkinson s) where
-    boore-atkinson-median : MedianEnds (widthAt booreAtkinson T booreAtkinsonWidth) (booreAtkinsonMedianBy s)
-        (booreAtkinsonMedianEnds s)
+  module _ {R : ℕ} (w : Within booreAtkinson (s .magnitude) R (s .velocity) (s .mechanism) (s .period)) where
+    boore-atkinson-median : MedianEnds (widthAt booreAtkinson T booreAtkinsonWidth) (booreAtkinsonMedianBy R s)
+        (booreAtkinsonMedianEnds (s .magnitude) R (s .velocity) (s .mechanism) T)
     boore-atkinson-median =
         by-tabled MedianEnds (hasRow booreAtkinson T)
         (λ e.
-        let d = boore-atkinson-median-domain s (boore-atkinson-row T e) w in
+        let d = boore-atkinson-median-domain (boore-atkinson-row T e) w in
         let m = rw (← row-at T) at (boore-atkinson-median-promise (s .mechanism) d) in
         let r = rw (← row-at T) at (boore-atkinson-median-reaches (s .mechanism) d) in
         let width = booreAtkinsonPromise.medianWidth in
         let own = ends-of _ width booreAtkinsonWidth (omega arith) (m .encloses) (m .narrow) (m .small) in
         median-ends own (omega arith) (omega arith) r)
         (λ e.
-        let b = on-step boore-atkinson-tabled T e (w .period) in
-        let d = boore-atkinson-median-domain s (b .last) w in
+        let b = on-step boore-atkinson-tabled T e (w .period-answered) in
+        let d = boore-atkinson-median-domain (b .last) w in
         let m =
         rw (← b .rows .next, ← row-at (neighbourBelow booreAtkinson T), ← row-at (neighbourAbove booreAtkinson T)) at
         (medianBetweenOf-promise (s .mechanism) (not-first (b .rows)) d (b .step)) in
         median-ends (between-ends (2 * booreAtkinsonWidth) (omega arith) m) (omega arith) (omega arith) (m .reaches))
 
     boore-atkinson-sigma : Ends (cond (hasRow booreAtkinson T) 0 sigmaBetweenWidth) (booreAtkinsonSigmaBy s)
-        (booreAtkinsonSigmaEnds s)
+        (booreAtkinsonSigmaEnds (s .mechanism) T)
     boore-atkinson-sigma =
         by-tabled Ends (hasRow booreAtkinson T)
         (λ e.
         let g = rw (← total-at T) at (boore-atkinson-sigma-promise _ (s .mechanism) (boore-atkinson-row T e)) in
         ends-of _ 0 0 (omega arith) (g .encloses) (no-units _ (g .equal)) (g .small))
         (λ e.
-        let b = on-step boore-atkinson-tabled T e (w .period) in
+        let b = on-step boore-atkinson-tabled T e (w .period-answered) in
         let T1 = neighbourBelow booreAtkinson T in
         let T2 = neighbourAbove booreAtkinson T in
         let g =
@@ -175,29 +185,50 @@ pub record Sound (s : Scenario) (e : Enclosure) : Type 0 where
   pub in-range : InRange (e .median)
 
 module _ (s : Scenario) where
-  idriss-sound : (s .model ≡ 1) × Within idriss s → Sound s (enclosureOf s)
-  unfolding enclosureOf median sigma medianWidth sigmaWidth
-  idriss-sound (model, w) =
-      let m = idriss-median s w (takesTable3 (s .magnitude)) in
-      let g = idriss-sigma s w in
-      rw model (record {
-        median-enclosed = m .own .enclosed;
-        sigma-enclosed = g .enclosed;
-        small = record { median = m .own .small; sigma = g .small };
-        in-range = m .inside;
-      })
+  module _ (model : s .model ≡ 1) (w : WithinBy idriss s) where
+    idriss-median-is : median s ≡ idrissMedianBy (tableFor (s .magnitude)) (w .distance) s
+    unfolding median
+    idriss-median-is = rw (model, w .reads) refl
 
-  boore-atkinson-sound : (s .model ≡ 2) × Within booreAtkinson s → Sound s (enclosureOf s)
-  unfolding enclosureOf median sigma medianWidth sigmaWidth
-  boore-atkinson-sound (model, w) =
-      let m = boore-atkinson-median s w in
-      let g = boore-atkinson-sigma s w in
-      rw model (record {
-        median-enclosed = m .own .enclosed;
-        sigma-enclosed = g .enclosed;
-        small = record { median = m .own .small; sigma = g .small };
-        in-range = m .inside;
-      })
+    idriss-enclosure-is : enclosureOf s ≡
+        idrissEnclosureOf (s .magnitude) (w .distance) (s .velocity) (s .mechanism) (s .period)
+    unfolding enclosureOf
+    idriss-enclosure-is = rw (model, w .reads) refl
+
+    idriss-sound : Sound s (enclosureOf s)
+    unfolding idrissEnclosureOf sigma medianWidth sigmaWidth
+    idriss-sound =
+        let m = idriss-median s (w .within) (takesTable3 (s .magnitude)) in
+        let g = idriss-sigma s (w .within) in
+        rw idriss-enclosure-is (record {
+          median-enclosed = rw (idriss-median-is, model) (m .own .enclosed);
+          sigma-enclosed = rw model (g .enclosed);
+          small = record { median = m .own .small; sigma = g .small };
+          in-range = m .inside;
+        })
+
+  module _ (model : s .model ≡ 2) (w : WithinBy booreAtkinson s) where
+    boore-atkinson-median-is : median s ≡ booreAtkinsonMedianBy (w .distance) s
+    unfolding median
+    boore-atkinson-median-is = rw (model, w .reads) refl
+
+    boore-atkinson-enclosure-is : enclosureOf s ≡
+        booreAtkinsonEnclosureOf (s .magnitude) (w .distance) (s .velocity) (s .mechanism) (s .period)
+    unfolding enclosureOf
+    boore-atkinson-enclosure-is = rw (model, w .reads) refl
+
+    boore-atkinson-sound : Sound s (enclosureOf s)
+    unfolding booreAtkinsonEnclosureOf sigma medianWidth sigmaWidth
+    boore-atkinson-sound =
+        let m = boore-atkinson-median s (w .within) in
+        let g = boore-atkinson-sigma s (w .within) in
+        rw boore-atkinson-enclosure-is (record {
+          median-enclosed = rw (boore-atkinson-median-is, model) (m .own .enclosed);
+          sigma-enclosed = rw model (g .enclosed);
+          small = record { median = m .own .small; sigma = g .small };
+          in-range = m .inside;
+        })
 
   pub sound : refusalOf s ≡ 0 → Sound s (enclosureOf s)
-  sound accepted = ⊎-elim idriss-sound boore-atkinson-sound (of-model s accepted)
+  sound accepted =
+      ⊎-elim (λ p. idriss-sound (p .0) (p .1)) (λ p. boore-atkinson-sound (p .0) (p .1)) (of-model s accepted)

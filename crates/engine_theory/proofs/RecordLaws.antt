@@ -4,21 +4,23 @@ use mathlib.Core.List.{List}
 use mathlib.Core.Logic.{⊎-elim}
 use Prim.Native.Nat.{ℕ}
 use Rattle.scenario_theory.specs.declared.Scenario.{Scenario}
-use Rattle.scenario_theory.specs.declared.Place.{Place}
+use Rattle.scenario_theory.specs.declared.Basis.{Basis}
 use Rattle.scenario_theory.specs.Refusal.{refusalOf}
 use Rattle.scenario_theory.proofs.CheckLaws.{is-refused, unless-is, of-unless}
 use Rattle.record_theory.specs.declared.Reading.the-variants.{Read, Refused}
-use Rattle.record_theory.specs.declared.PlacedReading.the-variants as T
+use Rattle.record_theory.specs.declared.BasedReading.the-variants as T
 use Rattle.record_theory.specs.Outcome.{scenarioIn, readRefusal, readOf, restAt}
-use Rattle.record_theory.specs.Steps.{placedReadingOf}
-use Rattle.record_theory.proofs.ReadingLaws.{accepted, read-as, not-read, read-of, placed-read}
+use Rattle.record_theory.specs.Steps.{basedReadingOf}
+use Rattle.record_theory.proofs.ReadingLaws.{accepted, read-as, not-read, read-of, based-read}
 use Rattle.engine_theory.specs.declared.Enclosure.{Enclosure}
 use Rattle.engine_theory.specs.declared.Answer.the-variants as A
 use Rattle.engine_theory.specs.declared.NextAnswer.{NextAnswer}
 use Rattle.engine_theory.specs.declared.NextAnswer.the-variants as N
 use Rattle.engine_theory.specs.Promise.{answerIn, lengthIn, NextPromise}
 use Rattle.engine_theory.specs.Evaluation.{enclosureOf, answerBy, answerOf, recordAnswerOf, nextOf}
+use Rattle.engine_theory.specs.Steps.{enclosureOn}
 use Rattle.engine_theory.proofs.Laws.{promised}
+use Rattle.engine_theory.proofs.Assembled.{on-basis}
 
 module _ (s : List ℕ) where
   -- a scenario that is read is accepted
@@ -27,12 +29,16 @@ module _ (s : List ℕ) where
 
   -- ---- the two cases of an answer with the record's length
 
-  pub next-enclosed : {x : Scenario} {n : ℕ} {p : Place} {a : Enclosure} → placedReadingOf s ≡ T.Read x n p →
-      a ≡ enclosureOf x → N.Enclosed a n ≡ nextOf s
+  pub next-enclosed : {x : Scenario} {n : ℕ} {b : Basis} {a : Enclosure} → basedReadingOf s ≡ T.Read x n b →
+      a ≡ enclosureOn (x .magnitude) (x .velocity) (x .mechanism) (x .period) b → N.Enclosed a n ≡ nextOf s
   unfolding nextOf
-  next-enclosed {x} {n} e same = let r = read-as s x n (placed-read s e .read) in cc
+  next-enclosed {x} {n} {b} {a} e same =
+      let d = based-read s e in
+      let r = read-as s x n (d .read) in
+      let enclosed : a ≡ enclosureOf x = same ∙ on-basis x b (d .rests .basis) in
+      cc
 
-  pub next-refused : {k : ℕ} → placedReadingOf s ≡ T.Refused k → N.Refused k ≡ nextOf s
+  pub next-refused : {k : ℕ} → basedReadingOf s ≡ T.Refused k → N.Refused k ≡ nextOf s
   unfolding nextOf
   next-refused {k} e =
       let r = not-read s k (sym (read-of s e .0)) in

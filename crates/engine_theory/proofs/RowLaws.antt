@@ -4,8 +4,7 @@ use mathlib.Core.Bool.{true, false, _&&_}
 use mathlib.Core.List.{List, _∷_}
 use Prim.Native.Nat.{ℕ, _+_, _≤_, _<_}
 use native.Mathlib.Omega.{arith}
-use borrow.Author.Tests.{eq-eqb, ne-eqb}
-use lib.Dec.{T, eqb, leb, leb→le}
+use lib.Dec.{T as Holds, eqb, leb, leb→le}
 use lib.ListN.{getD}
 use Rattle.toolbox_theory.specs.Lists.{among}
 use Rattle.toolbox_theory.proofs.Tests.{each}
@@ -15,53 +14,40 @@ use Rattle.logarithm_theory.specs.Evaluation.{lnOf}
 use Rattle.interpolation_theory.specs.declared.Neighbours.{Neighbours}
 use Rattle.interpolation_theory.specs.declared.Step.{Step}
 use Rattle.interpolation_theory.specs.Steps.{neighboursOf, stepOf, StepAt}
-use Rattle.scenario_theory.specs.declared.Scenario.{Scenario}
 use Rattle.scenario_theory.specs.declared.Place.{Place}
 use Rattle.scenario_theory.specs.declared.Place.the-variants as P
-use Rattle.scenario_theory.specs.Refusal.{Limits, idriss, booreAtkinson, beyondPeriods, refusalOf}
+use Rattle.scenario_theory.specs.Refusal.{Limits, idriss, booreAtkinson, beyondPeriods}
 use Rattle.scenario_theory.specs.Neighbours.{hasRow, neighbourBelow, neighbourAbove}
-use Rattle.scenario_theory.specs.Rows.{idrissRow, booreAtkinsonRow, rowCount, placeBy, placeOf, BetweenRows}
+use Rattle.scenario_theory.specs.Rows.{idrissRow, booreAtkinsonRow, rowCount, BetweenRows}
+use Rattle.scenario_theory.specs.Accepted.{Placed}
 use Rattle.scenario_theory.proofs.RowLaws.{idriss-row, boore-atkinson-row, idriss-printed, printed-itself}
 use Rattle.scenario_theory.proofs.RowLaws.{boore-atkinson-printed}
-use Rattle.scenario_theory.proofs.RefusalLaws.{Within, within-idriss, within-boore-atkinson}
 use Rattle.scenario_theory.proofs.RowLaws.{idriss-between, boore-atkinson-between, at-row, between-of}
-use Rattle.engine_theory.specs.Steps.{TakenBy, stepAround, firstIn, lastIn}
-
-module _ (model period : ℕ) where
-  pub first-place : model ≡ 1 → placeBy idriss idrissRow period ≡ placeOf model period
-  unfolding placeOf
-  first-place e = rw (eq-eqb model 1 e) refl
-
-  pub second-place : (model ≡ 1 → ⊥) → placeBy booreAtkinson booreAtkinsonRow period ≡ placeOf model period
-  unfolding placeOf
-  second-place h = rw (ne-eqb model 1 h) refl
+use Rattle.engine_theory.specs.Steps.{stepAround, firstIn, lastIn}
 
 -- ---- from the row below a period to the row above it
 
--- what is known of the tables of the model n, where a list has the period of each row
-pub record Tabled (n : ℕ) (m : Limits) (row : ℕ → ℕ) (list : List ℕ) : Type 0 where
+-- what is known of the tables of a model, where a list has the period of each row
+pub record Tabled (m : Limits) (row : ℕ → ℕ) (list : List ℕ) : Type 0 where
   pub listed : (t : ℕ) → among (m .periods) t ≡ true → t ≡ getD list (row t) 0
   pub few : (t : ℕ) → hasRow m t ≡ true → row t < rowCount
-  pub sizes : T (all (λ t. leb 1 t && leb t 10_000) (m .periods))
+  pub sizes : Holds (all (λ t. leb 1 t && leb t 10_000) (m .periods))
   pub between : (t : ℕ) → hasRow m t ≡ false → beyondPeriods t ≡ false → BetweenRows m row t
-  pub within : (s : Scenario) → s .model ≡ n → refusalOf s ≡ 0 → Within m s
 
-pub idriss-tabled : Tabled 1 idriss idrissRow (idriss .periods)
+pub idriss-tabled : Tabled idriss idrissRow (idriss .periods)
 idriss-tabled = record {
   listed = λ t e. sym (idriss-printed t (or-right (eqb t 0) e) ∙ printed-itself t e);
   few = idriss-row;
   sizes = tt;
   between = idriss-between;
-  within = within-idriss;
 }
 
-pub boore-atkinson-tabled : Tabled 2 booreAtkinson booreAtkinsonRow (0 ∷ booreAtkinson .periods)
+pub boore-atkinson-tabled : Tabled booreAtkinson booreAtkinsonRow (0 ∷ booreAtkinson .periods)
 boore-atkinson-tabled = record {
   listed = λ t e. sym (boore-atkinson-printed t (or-right (eqb t 0) e));
   few = boore-atkinson-row;
   sizes = tt;
   between = boore-atkinson-between;
-  within = within-boore-atkinson;
 }
 
 -- of a period without a row
@@ -71,19 +57,18 @@ pub record OnStep (m : Limits) (row : ℕ → ℕ) (list : List ℕ) (T : ℕ) :
   pub last : row (neighbourBelow m T) + 1 < rowCount
   pub domain : LnDomain T (neighbourBelow m T)
 
--- of a scenario that is taken at such a period
-pub record TakenOnStep (m : Limits) (row : ℕ → ℕ) (list : List ℕ) (s : Scenario) (k : ℕ) : Type 0 where
-  pub none : hasRow m (s .period) ≡ false
-  pub row-is : k ≡ row (neighbourBelow m (s .period))
-  pub within : Within m s
-  pub on-step : OnStep m row list (s .period)
+-- of one whose place is after row k
+pub record PlacedOnStep (m : Limits) (row : ℕ → ℕ) (list : List ℕ) (T k : ℕ) : Type 0 where
+  pub none : hasRow m T ≡ false
+  pub row-is : k ≡ row (neighbourBelow m T)
+  pub on-step : OnStep m row list T
 
--- of one that is taken at a row
-pub taken-at-row : {n : ℕ} {m : Limits} {row : ℕ → ℕ} {s : Scenario} {k : ℕ} → TakenBy n m row s (P.Row k) →
-    (hasRow m (s .period) ≡ true) × (k ≡ row (s .period))
-taken-at-row {m = m} {row} {s} t = at-row m row (s .period) (sym (t .place))
+-- of one whose place is at row k
+pub placed-at-row : {m : Limits} {row : ℕ → ℕ} {M R Vs mechanism T k : ℕ} →
+    Placed m row M R Vs mechanism T (P.Row k) → (hasRow m T ≡ true) × (k ≡ row T)
+placed-at-row {m} {row} {T = T} t = at-row m row T (sym (t .place))
 
-module _ {n : ℕ} {m : Limits} {row : ℕ → ℕ} {list : List ℕ} (tabled : Tabled n m row list) where
+module _ {m : Limits} {row : ℕ → ℕ} {list : List ℕ} (tabled : Tabled m row list) where
   -- a tabled period is a number whose logarithm is taken
   size : (t : ℕ) → among (m .periods) t ≡ true → (1 ≤ t) × (t ≤ 10_000)
   size t e =
@@ -108,28 +93,27 @@ module _ {n : ℕ} {m : Limits} {row : ℕ → ℕ} {list : List ℕ} (tabled : 
         domain = omega (arith, low, high, b .above, b .below);
       }
 
-  module _ {s : Scenario} where
-    pub taken-on-step : {k : ℕ} → TakenBy n m row s (P.Between k) → TakenOnStep m row list s k
-    taken-on-step t =
-        let b = between-of m row (s .period) (sym (t .place)) in
-        let w = tabled .within s (t .model) (t .accepted) in
-        record { none = b .0; row-is = b .1; within = w; on-step = on-step (s .period) (b .0) (w .period) }
+  module _ {M R Vs mechanism T : ℕ} where
+    pub placed-on-step : {k : ℕ} → Placed m row M R Vs mechanism T (P.Between k) → PlacedOnStep m row list T k
+    placed-on-step t =
+        let b = between-of m row T (sym (t .place)) in
+        record { none = b .0; row-is = b .1; on-step = on-step T (b .0) (t .within .period-answered) }
 
     -- the last row of a place is in the tables
-    pub last-taken : (p : Place) → TakenBy n m row s p → lastIn p < rowCount
-    last-taken (P.Row k) t = let r = taken-at-row t in rw (r .1) (tabled .few _ (r .0))
-    last-taken (P.Between k) t = let r = taken-on-step t in rw (r .row-is) (r .on-step .last)
+    pub last-placed : (p : Place) → Placed m row M R Vs mechanism T p → lastIn p < rowCount
+    last-placed (P.Row k) t = let r = placed-at-row t in rw (r .1) (tabled .few _ (r .0))
+    last-placed (P.Between k) t = let r = placed-on-step t in rw (r .row-is) (r .on-step .last)
 
--- what the code makes of the rows of such a scenario
-module _ {m : Limits} {row : ℕ → ℕ} {list : List ℕ} {s : Scenario} {k : ℕ} (t : TakenOnStep m row list s k)
+-- what the code makes of the rows of such a period
+module _ {m : Limits} {row : ℕ → ℕ} {list : List ℕ} {T k : ℕ} (t : PlacedOnStep m row list T k)
     {n : Neighbours} (rows : n ≡ neighboursOf (getD list k 0) (getD list (k + 1) 0)) where
-  neighbours-are : n ≡ neighboursOf (neighbourBelow m (s .period)) (neighbourAbove m (s .period))
+  neighbours-are : n ≡ neighboursOf (neighbourBelow m T) (neighbourAbove m T)
   neighbours-are = let step = t .on-step .step in rows ∙ rw (t .row-is, ← step .lower, ← step .upper) refl
 
-  pub step-domain : LnDomain (s .period) (n .lower) × (n .whole ≡ lnOf (n .upper) (n .lower))
+  pub step-domain : LnDomain T (n .lower) × (n .whole ≡ lnOf (n .upper) (n .lower))
   step-domain = rw neighbours-are (t .on-step .domain, refl)
 
-  pub step-is : {r : Step} → r ≡ stepOf (s .period) (n .lower) (n .upper) → r ≡ stepAround m (s .period)
+  pub step-is : {r : Step} → r ≡ stepOf T (n .lower) (n .upper) → r ≡ stepAround m T
   step-is e = e ∙ rw neighbours-are refl
 
 -- the row PGA is no neighbour

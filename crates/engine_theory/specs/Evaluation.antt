@@ -3,7 +3,7 @@
 use mathlib.Core.Bool.{cond}
 use mathlib.Core.List.{List}
 use Prim.Native.Nat.{ℕ, _^_}
-use lib.IntN.{ℤ}
+use lib.IntN.{ℤ, pos}
 use lib.Ieee.{Float, Format, binary64, ofInt}
 use Rattle.interval_theory.specs.declared.SignedEnds.{SignedEnds}
 use Rattle.interval_theory.specs.Signed.{SmallerThan}
@@ -11,6 +11,7 @@ use Rattle.interpolation_theory.specs.declared.Step.{Step}
 use Rattle.interpolation_theory.specs.Steps.{stepOf}
 use Rattle.scenario_theory.specs.declared.Scenario.{Scenario}
 use Rattle.scenario_theory.specs.Checks.{unlessRefused}
+use Rattle.scenario_theory.specs.Distances.{given}
 use Rattle.scenario_theory.specs.Refusal.{Limits, idriss, booreAtkinson, refusalOf}
 use Rattle.scenario_theory.specs.Neighbours.{hasRow, neighbourBelow, neighbourAbove}
 use Rattle.record_theory.specs.Outcome.{mapIn, scenarioIn, lengthBy, readRefusal}
@@ -39,34 +40,46 @@ atPeriodOf m T by-row between-rows =
     let T2 : ℕ = neighbourAbove m T in
     cond (hasRow m T) (by-row T) (between-rows T1 T2 (stepOf T T1 T2))
 
--- Idriss's median by one of its tables
-abbrev pub idrissMedianEnds : List Row → Scenario → SignedEnds
-idrissMedianEnds table s =
-    atPeriodOf idriss (s .period)
-    (λ t. idrissMedianOf (rowIn table t) (s .magnitude) (s .distance) (s .velocity) (s .mechanism))
-    (λ t u step. idrissMedianBetweenOf (rowIn table t) (rowIn table u) step (s .magnitude) (s .distance) (s .velocity)
-    (s .mechanism))
+-- Idriss's median by one of its tables, from magnitude, rupture distance, velocity, mechanism and period
+abbrev pub idrissMedianEnds : List Row → ℕ → ℕ → ℕ → ℕ → ℕ → SignedEnds
+idrissMedianEnds table M R Vs mechanism T =
+    atPeriodOf idriss T (λ t. idrissMedianOf (rowIn table t) M R Vs mechanism)
+    (λ t u step. idrissMedianBetweenOf (rowIn table t) (rowIn table u) step M R Vs mechanism)
 
-abbrev pub booreAtkinsonMedianEnds : Scenario → SignedEnds
-booreAtkinsonMedianEnds s =
-    atPeriodOf booreAtkinson (s .period)
-    (λ t. booreAtkinsonMedianOf (rowFor t) (s .magnitude) (s .distance) (s .velocity) (s .mechanism))
-    (λ t u step. booreAtkinsonMedianBetweenOf (rowFor t) (rowFor u) step (s .magnitude) (s .distance) (s .velocity)
-    (s .mechanism))
+-- and Boore-Atkinson's, with the projection distance
+abbrev pub booreAtkinsonMedianEnds : ℕ → ℕ → ℕ → ℕ → ℕ → SignedEnds
+booreAtkinsonMedianEnds M RJB Vs mechanism T =
+    atPeriodOf booreAtkinson T (λ t. booreAtkinsonMedianOf (rowFor t) M RJB Vs mechanism)
+    (λ t u step. booreAtkinsonMedianBetweenOf (rowFor t) (rowFor u) step M RJB Vs mechanism)
 
-abbrev pub booreAtkinsonSigmaEnds : Scenario → SignedEnds
-booreAtkinsonSigmaEnds s =
-    atPeriodOf booreAtkinson (s .period) (λ t. booreAtkinsonSigmaOf (totalFor t) (s .mechanism))
-    (λ t u step. sigmaBetweenOf (totalFor t) (totalFor u) step (s .mechanism))
+abbrev pub booreAtkinsonSigmaEnds : ℕ → ℕ → SignedEnds
+booreAtkinsonSigmaEnds mechanism T =
+    atPeriodOf booreAtkinson T (λ t. booreAtkinsonSigmaOf (totalFor t) mechanism)
+    (λ t u step. sigmaBetweenOf (totalFor t) (totalFor u) step mechanism)
+
+-- the four ends by each model
+unfoldable pub idrissEnclosureOf : ℕ → ℕ → ℕ → ℕ → ℕ → Enclosure
+idrissEnclosureOf M R Vs mechanism T =
+    record { median = idrissMedianEnds (tableFor M) M R Vs mechanism T; sigma = idrissSigmaOf T M }
+
+unfoldable pub booreAtkinsonEnclosureOf : ℕ → ℕ → ℕ → ℕ → ℕ → Enclosure
+booreAtkinsonEnclosureOf M RJB Vs mechanism T =
+    record {
+      median = booreAtkinsonMedianEnds M RJB Vs mechanism T;
+      sigma = booreAtkinsonSigmaEnds mechanism T;
+    }
+
+-- nothing is computed where the distance is absent; these ends are in no answer
+abbrev pub noEnds : Enclosure
+noEnds = record { median = record { low = pos 0; high = pos 0 }; sigma = record { low = pos 0; high = pos 0 } }
 
 unfoldable pub enclosureOf : Scenario → Enclosure
 enclosureOf s =
     byModel s
-    record {
-      median = idrissMedianEnds (tableFor (s .magnitude)) s;
-      sigma = idrissSigmaOf (s .period) (s .magnitude);
-    }
-    record { median = booreAtkinsonMedianEnds s; sigma = booreAtkinsonSigmaEnds s }
+    (given (idriss .reads s)
+    (λ R. idrissEnclosureOf (s .magnitude) R (s .velocity) (s .mechanism) (s .period)) noEnds)
+    (given (booreAtkinson .reads s)
+    (λ RJB. booreAtkinsonEnclosureOf (s .magnitude) RJB (s .velocity) (s .mechanism) (s .period)) noEnds)
 
 -- where k is the number of the first check that applies
 unfoldable pub answerBy : ℕ → Scenario → Answer

@@ -1,12 +1,13 @@
--- What the model of a scenario gives, as the papers have it and between rows as W-201 has it, and how far apart the
--- ends of an answer may be.
+-- What the model of a scenario gives, as the papers have it, between rows as W-201 has it and by each model's own
+-- distance as W-202 has it, and how far apart the ends of an answer may be.
 use mathlib.Core.Bool.{cond}
 use mathlib.Core.List.{List}
 use Prim.Native.Nat.{ℕ, _*_}
 use lib.Dec.{eqb}
-use Rattle.exact_theory.specs.Formula.{Formula}
+use Rattle.exact_theory.specs.Formula.{Formula, ln}
 use Rattle.interpolation_theory.specs.Between.{between}
 use Rattle.scenario_theory.specs.declared.Scenario.{Scenario}
+use Rattle.scenario_theory.specs.Distances.{given}
 use Rattle.scenario_theory.specs.Refusal.{Limits, idriss, booreAtkinson}
 use Rattle.scenario_theory.specs.Neighbours.{hasRow, neighbourBelow, neighbourAbove}
 use Rattle.idriss_theory.specs.Tables.{Row, tableFor, rowIn}
@@ -29,21 +30,29 @@ atPeriod m T f =
     let T2 : ℕ = neighbourAbove m T in
     cond (hasRow m T) (f T) (between T T1 T2 (f T1) (f T2))
 
--- Idriss's median by one of its tables ('Idriss')
-abbrev pub idrissMedianBy : List Row → Scenario → Formula
-idrissMedianBy table s =
+-- Idriss's median by one of its tables ('Idriss'), at the rupture distance R
+abbrev pub idrissMedianBy : List Row → ℕ → Scenario → Formula
+idrissMedianBy table R s =
     atPeriod idriss (s .period)
-    (λ t. idrissMedian (rowIn table t) (s .magnitude) (s .distance) (s .velocity) (s .mechanism))
+    (λ t. idrissMedian (rowIn table t) (s .magnitude) R (s .velocity) (s .mechanism))
 
--- and Boore-Atkinson's ('Boore-Atkinson on rock', 'The site term')
-abbrev pub booreAtkinsonMedianBy : Scenario → Formula
-booreAtkinsonMedianBy s =
+-- and Boore-Atkinson's ('Boore-Atkinson on rock', 'The site term'), at the projection distance RJB
+abbrev pub booreAtkinsonMedianBy : ℕ → Scenario → Formula
+booreAtkinsonMedianBy RJB s =
     atPeriod booreAtkinson (s .period)
-    (λ t. booreAtkinsonMedian (rowFor t) (s .magnitude) (s .distance) (s .velocity) (s .mechanism))
+    (λ t. booreAtkinsonMedian (rowFor t) (s .magnitude) RJB (s .velocity) (s .mechanism))
 
--- "the exact natural logarithm that the model gives with its printed coefficients" (demand 3)
+-- a model gives nothing where the distance that it reads is absent: this formula is `Defined` at no fineness, as ln 0
+-- is not, so that no ends enclose it
+abbrev pub undefined : Formula
+undefined = ln 0 1
+
+-- "the exact natural logarithm that the model gives with its printed coefficients" (demand 3); "each model must read its
+-- own" distance (W-202)
 unfoldable pub median : Scenario → Formula
-median s = byModel s (idrissMedianBy (tableFor (s .magnitude)) s) (booreAtkinsonMedianBy s)
+median s =
+    byModel s (given (idriss .reads s) (λ R. idrissMedianBy (tableFor (s .magnitude)) R s) undefined)
+    (given (booreAtkinson .reads s) (λ RJB. booreAtkinsonMedianBy RJB s) undefined)
 
 -- "Sigma of Boore-Atkinson goes the same way" (W-201)
 abbrev pub booreAtkinsonSigmaBy : Scenario → Formula
