@@ -4,12 +4,13 @@ ghost use mathlib.Core.Path.{_≡_};
 ghost use Prim.Native.Nat.{_+_, _<_};
 ghost use Rattle.scenario_theory.specs.declared.Place.the-variants as P;
 ghost use Rattle.scenario_theory.specs.Refusal.{idriss, booreAtkinson, refusalOf};
-ghost use Rattle.scenario_theory.specs.Rows.{rowCount, idrissRow, booreAtkinsonRow, scenarioWith, Looked};
+ghost use Rattle.scenario_theory.specs.Rows.{rowCount, idrissRow, booreAtkinsonRow};
+ghost use Rattle.scenario_theory.specs.Accepted.{Placed, PlacedOn};
 ghost use Rattle.record_theory.specs.Outcome.{scenarioIn, readRefusal};
 ghost use Rattle.engine_theory.specs.Promise.{AnswerPromise, NextPromise, DoublesPromise};
-ghost use Rattle.engine_theory.specs.Steps.{TakenBy, firstIn, lastIn, idrissRowsOf, booreAtkinsonRowsOf};
-ghost use Rattle.engine_theory.specs.Evaluation.{enclosureOf, answerOf, recordAnswerOf, nextOf};
-ghost use Rattle.engine_theory.specs.Evaluation.{inDoubles};
+ghost use Rattle.engine_theory.specs.Steps.{enclosureOn, firstIn, lastIn, idrissRowsOf, booreAtkinsonRowsOf};
+ghost use Rattle.engine_theory.specs.Evaluation.{idrissEnclosureOf, booreAtkinsonEnclosureOf, answerOf};
+ghost use Rattle.engine_theory.specs.Evaluation.{recordAnswerOf, nextOf, inDoubles};
 use doubles::as_doubles;
 pub use engine_theory::Answer;
 pub use engine_theory::Doubles;
@@ -19,11 +20,14 @@ pub use engine_theory::NextAnswer;
 use interpolation::interpolated;
 use interpolation_theory::TwoRows;
 use interval::ends;
-use record_theory::PlacedReading;
+use record_theory::BasedReading;
 use row_neighbours::boore_atkinson_neighbours;
 use row_neighbours::idriss_neighbours;
+use scenario_theory::Basis;
 use scenario_theory::Check;
 use scenario_theory::Place;
+use scenario_theory::ProjectionDistance;
+use scenario_theory::RuptureDistance;
 use scenario_theory::Scenario;
 
 // The first and the last of the rows of a place.
@@ -47,55 +51,91 @@ fn last_row(place: Place) -> usize
 }
 
 // By Idriss between row k and the next, with the medians by these.
-fn between_idriss(s: Scenario, k: usize, rows: TwoRows) -> Enclosure
-    requires { ⌜ TakenBy 1 idriss idrissRow s (P.Between k) × (rows ≡ idrissRowsOf s k (k + 1)) ⌝ }
-    ensures { λ r. ⌜ r ≡ enclosureOf s ⌝ }
+fn between_idriss(
+    magnitude: u16,
+    distance: RuptureDistance,
+    velocity: u16,
+    mechanism: u8,
+    period: u16,
+    k: usize,
+    rows: TwoRows,
+) -> Enclosure
+    requires { ⌜ Placed idriss idrissRow magnitude (distance .0) velocity mechanism period (P.Between k) ⌝ }
+    requires { ⌜ rows ≡ idrissRowsOf magnitude (distance .0) velocity mechanism k (k + 1) ⌝ }
+    ensures { λ r. ⌜ r ≡ idrissEnclosureOf magnitude (distance .0) velocity mechanism period ⌝ }
 {
-    let step = interpolation::step(idriss_neighbours(k), s.period);
+    let step = interpolation::step(idriss_neighbours(k), period);
     Enclosure {
         median: interpolated(rows.lower, rows.upper, step.part, step.whole),
-        sigma: idriss_sigma::sigma_between(s.period, s.magnitude),
+        sigma: idriss_sigma::sigma_between(period, magnitude),
     }
 }
 
 // By Idriss at row k, with the median by it.
-fn at_idriss_row(s: Scenario, k: usize, rows: TwoRows) -> Enclosure
-    requires { ⌜ TakenBy 1 idriss idrissRow s (P.Row k) × (rows ≡ idrissRowsOf s k k) ⌝ }
-    ensures { λ r. ⌜ r ≡ enclosureOf s ⌝ }
+fn at_idriss_row(
+    magnitude: u16,
+    distance: RuptureDistance,
+    velocity: u16,
+    mechanism: u8,
+    period: u16,
+    k: usize,
+    rows: TwoRows,
+) -> Enclosure
+    requires { ⌜ Placed idriss idrissRow magnitude (distance .0) velocity mechanism period (P.Row k) ⌝ }
+    requires { ⌜ rows ≡ idrissRowsOf magnitude (distance .0) velocity mechanism k k ⌝ }
+    ensures { λ r. ⌜ r ≡ idrissEnclosureOf magnitude (distance .0) velocity mechanism period ⌝ }
 {
     Enclosure {
         median: ends(rows.upper),
-        sigma: idriss_sigma::sigma(k, s.period, s.magnitude),
+        sigma: idriss_sigma::sigma(k, period, magnitude),
     }
 }
 
-fn by_idriss(s: Scenario, place: Place) -> Enclosure
-    requires { ⌜ TakenBy 1 idriss idrissRow s place ⌝ }
-    ensures { λ r. ⌜ r ≡ enclosureOf s ⌝ }
+fn by_idriss(
+    magnitude: u16,
+    distance: RuptureDistance,
+    velocity: u16,
+    mechanism: u8,
+    period: u16,
+    place: Place,
+) -> Enclosure
+    requires { ⌜ Placed idriss idrissRow magnitude (distance .0) velocity mechanism period place ⌝ }
+    ensures { λ r. ⌜ r ≡ idrissEnclosureOf magnitude (distance .0) velocity mechanism period ⌝ }
 {
     let rows = idriss::median_rows(
-        idriss_tables::takes_table_3(s.magnitude),
+        idriss_tables::takes_table_3(magnitude),
         first_row(place),
         last_row(place),
-        s.magnitude,
-        s.distance,
-        s.velocity,
-        s.mechanism,
+        magnitude,
+        distance,
+        velocity,
+        mechanism,
     );
     match place {
-        Place::Row(k) => at_idriss_row(s, k, rows),
-        Place::Between(k) => between_idriss(s, k, rows),
+        Place::Row(k) => at_idriss_row(magnitude, distance, velocity, mechanism, period, k, rows),
+        Place::Between(k) => {
+            between_idriss(magnitude, distance, velocity, mechanism, period, k, rows)
+        }
     }
 }
 
 // By Boore and Atkinson between row k and the next, with the medians by these.
-fn between_boore_atkinson(s: Scenario, k: usize, rows: TwoRows) -> Enclosure
-    requires { ⌜ TakenBy 2 booreAtkinson booreAtkinsonRow s (P.Between k) ⌝ }
-    requires { ⌜ rows ≡ booreAtkinsonRowsOf s k (k + 1) ⌝ }
-    ensures { λ r. ⌜ r ≡ enclosureOf s ⌝ }
+fn between_boore_atkinson(
+    magnitude: u16,
+    distance: ProjectionDistance,
+    velocity: u16,
+    mechanism: u8,
+    period: u16,
+    k: usize,
+    rows: TwoRows,
+) -> Enclosure
+    requires { ⌜ Placed booreAtkinson booreAtkinsonRow magnitude (distance .0) velocity mechanism period
+        (P.Between k) ⌝ }
+    requires { ⌜ rows ≡ booreAtkinsonRowsOf magnitude (distance .0) velocity mechanism k (k + 1) ⌝ }
+    ensures { λ r. ⌜ r ≡ booreAtkinsonEnclosureOf magnitude (distance .0) velocity mechanism period ⌝ }
 {
-    let step = interpolation::step(boore_atkinson_neighbours(k), s.period);
-    let sigmas = boore_atkinson_sigma::sigma_rows(k, s.mechanism);
+    let step = interpolation::step(boore_atkinson_neighbours(k), period);
+    let sigmas = boore_atkinson_sigma::sigma_rows(k, mechanism);
     Enclosure {
         median: interpolated(rows.lower, rows.upper, step.part, step.whole),
         sigma: interpolated(sigmas.lower, sigmas.upper, step.part, step.whole),
@@ -103,60 +143,68 @@ fn between_boore_atkinson(s: Scenario, k: usize, rows: TwoRows) -> Enclosure
 }
 
 // By Boore and Atkinson at row k, with the median by it.
-fn at_boore_atkinson_row(s: Scenario, k: usize, rows: TwoRows) -> Enclosure
-    requires { ⌜ TakenBy 2 booreAtkinson booreAtkinsonRow s (P.Row k) × (rows ≡ booreAtkinsonRowsOf s k k) ⌝ }
-    ensures { λ r. ⌜ r ≡ enclosureOf s ⌝ }
+fn at_boore_atkinson_row(
+    magnitude: u16,
+    distance: ProjectionDistance,
+    velocity: u16,
+    mechanism: u8,
+    period: u16,
+    k: usize,
+    rows: TwoRows,
+) -> Enclosure
+    requires { ⌜ Placed booreAtkinson booreAtkinsonRow magnitude (distance .0) velocity mechanism period (P.Row k) ⌝ }
+    requires { ⌜ rows ≡ booreAtkinsonRowsOf magnitude (distance .0) velocity mechanism k k ⌝ }
+    ensures { λ r. ⌜ r ≡ booreAtkinsonEnclosureOf magnitude (distance .0) velocity mechanism period ⌝ }
 {
     Enclosure {
         median: ends(rows.upper),
-        sigma: boore_atkinson_sigma::sigma(k, s.mechanism),
+        sigma: boore_atkinson_sigma::sigma(k, mechanism),
     }
 }
 
-fn by_boore_atkinson(s: Scenario, place: Place) -> Enclosure
-    requires { ⌜ TakenBy 2 booreAtkinson booreAtkinsonRow s place ⌝ }
-    ensures { λ r. ⌜ r ≡ enclosureOf s ⌝ }
-{
-    let rows = boore_atkinson::median_rows(
-        first_row(place),
-        last_row(place),
-        s.magnitude,
-        s.distance,
-        s.velocity,
-        s.mechanism,
-    );
-    match place {
-        Place::Row(k) => at_boore_atkinson_row(s, k, rows),
-        Place::Between(k) => between_boore_atkinson(s, k, rows),
-    }
-}
-
-// By the scenario's own model, with the place of its period, which the checks have looked up. The fields pass in
-// registers, as a struct would be stored and read back.
-fn by_model(
-    model: u8,
+fn by_boore_atkinson(
     magnitude: u16,
-    distance: u16,
+    distance: ProjectionDistance,
     velocity: u16,
     mechanism: u8,
     period: u16,
     place: Place,
 ) -> Enclosure
-    requires { ⌜ Looked (scenarioWith model magnitude distance velocity mechanism period) place ⌝ }
-    ensures { λ r. ⌜ r ≡ enclosureOf (scenarioWith model magnitude distance velocity mechanism period) ⌝ }
+    requires { ⌜ Placed booreAtkinson booreAtkinsonRow magnitude (distance .0) velocity mechanism period place ⌝ }
+    ensures { λ r. ⌜ r ≡ booreAtkinsonEnclosureOf magnitude (distance .0) velocity mechanism period ⌝ }
 {
-    let s = Scenario {
-        model,
+    let rows = boore_atkinson::median_rows(
+        first_row(place),
+        last_row(place),
         magnitude,
         distance,
         velocity,
         mechanism,
-        period,
-    };
-    if model == 1 {
-        return by_idriss(s, place);
+    );
+    match place {
+        Place::Row(k) => {
+            at_boore_atkinson_row(magnitude, distance, velocity, mechanism, period, k, rows)
+        }
+        Place::Between(k) => {
+            between_boore_atkinson(magnitude, distance, velocity, mechanism, period, k, rows)
+        }
     }
-    by_boore_atkinson(s, place)
+}
+
+// By what the checks have found an answer to rest on: the model and the distance that it reads, and the place of the
+// period. The fields pass in registers, as a struct would be stored and read back.
+fn on_basis(magnitude: u16, velocity: u16, mechanism: u8, period: u16, basis: Basis) -> Enclosure
+    requires { ⌜ PlacedOn magnitude velocity mechanism period basis ⌝ }
+    ensures { λ r. ⌜ r ≡ enclosureOn magnitude velocity mechanism period basis ⌝ }
+{
+    match basis {
+        Basis::Idriss(distance, place) => {
+            by_idriss(magnitude, distance, velocity, mechanism, period, place)
+        }
+        Basis::BooreAtkinson(distance, place) => {
+            by_boore_atkinson(magnitude, distance, velocity, mechanism, period, place)
+        }
+    }
 }
 
 // Answers a scenario of any fields.
@@ -164,22 +212,23 @@ pub fn answer_fields(s: Scenario) -> Answer
     ensures { λ r. ⌜ r ≡ answerOf s ⌝ }
     ensures { λ r. ⌜ AnswerPromise (refusalOf s) s r ⌝ }
 {
+    let rupture = s.rupture;
+    let projection = s.projection;
     match scenario::check(
         s.model,
         s.magnitude,
-        s.distance,
+        rupture,
         s.velocity,
         s.mechanism,
         s.period,
+        projection,
     ) {
-        Check::Accepted(place) => Answer::Enclosed(by_model(
-            s.model,
+        Check::Accepted(basis) => Answer::Enclosed(on_basis(
             s.magnitude,
-            s.distance,
             s.velocity,
             s.mechanism,
             s.period,
-            place,
+            basis,
         )),
         Check::Refused(k) => Answer::Refused(k),
     }
@@ -190,20 +239,12 @@ pub fn answer_next(bytes: &[u8]) -> NextAnswer
     ensures { λ r. ⌜ r ≡ nextOf (now (bytes .entry)) ⌝ }
     ensures { λ r. ⌜ NextPromise (now (bytes .entry)) r ⌝ }
 {
-    match record_reading::read_with_place(bytes) {
-        PlacedReading::Read(s, n, place) => NextAnswer::Enclosed(
-            by_model(
-                s.model,
-                s.magnitude,
-                s.distance,
-                s.velocity,
-                s.mechanism,
-                s.period,
-                place,
-            ),
+    match record_reading::read_with_basis(bytes) {
+        BasedReading::Read(s, n, basis) => NextAnswer::Enclosed(
+            on_basis(s.magnitude, s.velocity, s.mechanism, s.period, basis),
             n,
         ),
-        PlacedReading::Refused(k) => NextAnswer::Refused(k),
+        BasedReading::Refused(k) => NextAnswer::Refused(k),
     }
 }
 
@@ -223,22 +264,23 @@ pub fn answer_fields_in_doubles(s: Scenario) -> DoublesAnswer
     ensures { λ r. ⌜ r ≡ inDoubles (answerOf s) ⌝ }
     ensures { λ r. ⌜ DoublesPromise (refusalOf s) s (answerOf s) r ⌝ }
 {
+    let rupture = s.rupture;
+    let projection = s.projection;
     match scenario::check(
         s.model,
         s.magnitude,
-        s.distance,
+        rupture,
         s.velocity,
         s.mechanism,
         s.period,
+        projection,
     ) {
-        Check::Accepted(place) => DoublesAnswer::Enclosed(as_doubles(by_model(
-            s.model,
+        Check::Accepted(basis) => DoublesAnswer::Enclosed(as_doubles(on_basis(
             s.magnitude,
-            s.distance,
             s.velocity,
             s.mechanism,
             s.period,
-            place,
+            basis,
         ))),
         Check::Refused(k) => DoublesAnswer::Refused(k),
     }

@@ -13,10 +13,10 @@ answer-fields-spec =
     tie.close
     (tie.spec
     (λ c κs. search needs) (λ c. search needs)
-    (λ c κs. passed _ (sym (c .before .before .before .check .ensures) ∙ c .before .place .given .1))
+    (λ c κs. passed _ (sym (c .before .before .before .check .ensures) ∙ c .before .basis .given .1) .placed)
     (λ c. search needs)
     (λ c. let g = c .before .before in
-    let checked = sym (g .before .before .check .ensures) ∙ g .place .given .1 in
-    answers _ _ (λ e. e) (fields-enclosed _ checked (c .by-model .ensures)))
+    let checked = sym (g .before .before .check .ensures) ∙ g .basis .given .1 in
+    answers _ _ (λ e. e) (fields-enclosed _ checked (c .on-basis .ensures)))
     (λ c. answers _ _ (λ e. e)
     (fields-refused _ (sym (c .before .before .before .check .ensures) ∙ c .before .k .given .1))))

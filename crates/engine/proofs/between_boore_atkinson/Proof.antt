@@ -4,17 +4,17 @@ use mathlib.Core.List.{_∷_}
 use Rattle.scenario_theory.specs.Refusal.{booreAtkinson}
 use Rattle.scenario_theory.specs.Rows.{booreAtkinsonRow}
 use Rattle.engine_theory.specs.Steps.{stepAround}
-use Rattle.engine_theory.proofs.RowLaws.{boore-atkinson-tabled, TakenOnStep, taken-on-step, step-domain, step-is}
+use Rattle.engine_theory.proofs.RowLaws.{boore-atkinson-tabled, PlacedOnStep, placed-on-step, step-domain, step-is}
 use Rattle.engine_theory.proofs.RowLaws.{not-first}
 use Rattle.engine_theory.proofs.Assembled.{boore-atkinson-interpolates, boore-atkinson-between-rows}
 use Rattle.engine.proofs.between_boore_atkinson.Statement.{statement}
 use Rattle.engine.proofs.between_boore_atkinson.Tie as tie
 
 taken : (c : tie.Start) →
-    TakenOnStep booreAtkinson booreAtkinsonRow (0 ∷ booreAtkinson .periods) (c .args .s) (c .args .k)
-taken c = taken-on-step boore-atkinson-tabled (c .pre .0)
+    PlacedOnStep booreAtkinson booreAtkinsonRow (0 ∷ booreAtkinson .periods) (c .args .period) (c .args .k)
+taken c = placed-on-step boore-atkinson-tabled (c .pre .0)
 
-step : (c : tie.After-step) → c .step .result ≡ stepAround booreAtkinson (c .before .before .args .s .period)
+step : (c : tie.After-step) → c .step .result ≡ stepAround booreAtkinson (c .before .before .args .period)
 step c = let n = c .before in step-is (taken (n .before)) (n .boore-atkinson-neighbours .ensures) (c .step .ensures)
 
 pub between-boore-atkinson-spec : {M : Type 1} → statement M

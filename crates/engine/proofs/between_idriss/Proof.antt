@@ -4,15 +4,15 @@ use borrow.Author.Needs.{needs}
 use Rattle.scenario_theory.specs.Refusal.{idriss}
 use Rattle.scenario_theory.specs.Rows.{idrissRow}
 use Rattle.engine_theory.specs.Steps.{stepAround}
-use Rattle.engine_theory.proofs.RowLaws.{idriss-tabled, TakenOnStep, taken-on-step, step-domain, step-is}
+use Rattle.engine_theory.proofs.RowLaws.{idriss-tabled, PlacedOnStep, placed-on-step, step-domain, step-is}
 use Rattle.engine_theory.proofs.Assembled.{idriss-interpolates, idriss-between-rows}
 use Rattle.engine.proofs.between_idriss.Statement.{statement}
 use Rattle.engine.proofs.between_idriss.Tie as tie
 
-taken : (c : tie.Start) → TakenOnStep idriss idrissRow (idriss .periods) (c .args .s) (c .args .k)
-taken c = taken-on-step idriss-tabled (c .pre .0)
+taken : (c : tie.Start) → PlacedOnStep idriss idrissRow (idriss .periods) (c .args .period) (c .args .k)
+taken c = placed-on-step idriss-tabled (c .pre .0)
 
-step : (c : tie.After-step) → c .step .result ≡ stepAround idriss (c .before .before .args .s .period)
+step : (c : tie.After-step) → c .step .result ≡ stepAround idriss (c .before .before .args .period)
 step c = let n = c .before in step-is (taken (n .before)) (n .idriss-neighbours .ensures) (c .step .ensures)
 
 pub between-idriss-spec : {M : Type 1} → statement M
