@@ -25,7 +25,7 @@ static inline void idriss_sum(arb_t median, arb_srcptr at, const fusnoch_scenari
     arb_addmul_ui(median, &at[A3], to_top * to_top, BITS);
     arb_submul(median, factor, ln_r, BITS);
     arb_addmul(median, &at[XI], ln_v, BITS);
-    arb_addmul_ui(median, &at[GAMMA], s->distance, BITS);
+    arb_addmul_ui(median, &at[GAMMA], s->rupture_distance, BITS);
     if (s->mechanism >= 2)
         arb_add(median, median, &at[PHI], BITS);
 }
@@ -35,7 +35,7 @@ static void idriss_median(arb_t median, arb_srcptr at, fusnoch_scenario s)
     ulong to_top = 850 - s.magnitude;
 
     /* ln(R + 10) and ln V */
-    arb_log_ui(ln_r, s.distance + 1000, BITS);
+    arb_log_ui(ln_r, s.rupture_distance + 1000, BITS);
     arb_sub(ln_r, ln_r, ln_100, BITS);
     arb_log_ui(ln_v, s.velocity < 12000 ? s.velocity : 12000, BITS);
     arb_sub(ln_v, ln_v, ln_10, BITS);
@@ -50,7 +50,7 @@ static void idriss_again(arb_t median, arb_srcptr at, fusnoch_scenario s)
 static void on_rock(arb_t sum, size_t row, fusnoch_scenario s)
 {
     arb_srcptr at = boore_atkinson_balls[row];
-    ulong squares = (ulong)s.distance * s.distance + H_HUNDREDTHS[row] * H_HUNDREDTHS[row];
+    ulong squares = (ulong)s.projection_distance * s.projection_distance + H_HUNDREDTHS[row] * H_HUNDREDTHS[row];
     slong beyond_hinge = s.magnitude - HINGE_HUNDREDTHS[row];
 
     /* ln R, which is half of ln(R^2), and R - Rref */

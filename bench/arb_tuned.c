@@ -27,12 +27,12 @@ static void idriss_median(arb_t median, arb_srcptr at, fusnoch_scenario s)
     arb_set_ui(&term[A2], s.magnitude);
     arb_set_ui(&term[A3], to_top * to_top);
     /* -ln(R + 10), alone and times the magnitude; then ln V */
-    arb_log_ui(&term[B1], s.distance + 1000, BITS);
+    arb_log_ui(&term[B1], s.rupture_distance + 1000, BITS);
     arb_sub(&term[B1], ln_100, &term[B1], BITS);
     arb_mul_ui(&term[B2], &term[B1], s.magnitude, BITS);
     arb_log_ui(&term[XI], s.velocity < 12000 ? s.velocity : 12000, BITS);
     arb_sub(&term[XI], &term[XI], ln_10, BITS);
-    arb_set_ui(&term[GAMMA], s.distance);
+    arb_set_ui(&term[GAMMA], s.rupture_distance);
     arb_set_ui(&term[PHI], s.mechanism >= 2);
     arb_dot(median, NULL, 0, at, 1, term, 1, IDRISS_COLUMNS, BITS);
 }
@@ -47,7 +47,7 @@ static void on_rock(arb_t sum, size_t row, fusnoch_scenario s)
 {
     arb_srcptr at = boore_atkinson_balls[row], e = &at[E_OF_CODE[s.mechanism]];
     arb_ptr term = boore_atkinson_terms;
-    ulong squares = (ulong)s.distance * s.distance + H_HUNDREDTHS[row] * H_HUNDREDTHS[row];
+    ulong squares = (ulong)s.projection_distance * s.projection_distance + H_HUNDREDTHS[row] * H_HUNDREDTHS[row];
     slong beyond_hinge = s.magnitude - HINGE_HUNDREDTHS[row];
 
     /* ln R, which is half of ln(R^2), alone and times M - Mref; then R - Rref */

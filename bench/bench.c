@@ -6,7 +6,8 @@
                                            between
 
    Scenarios are drawn over all the limits of a model, with a fixed seed, and kept in memory with their records.  Those
-   between rows are the same but for their periods. */
+   between rows are the same but for their periods.  They have the distance that the model reads and not the other, so
+   that the figures can be compared with those of before there were two. */
 
 #include <math.h>
 #include <sched.h>
@@ -59,9 +60,9 @@ enum {
 
 static fusnoch_scenario draw_idriss(uint64_t *state)
 {
-    fusnoch_scenario s = {.model = 1};
+    fusnoch_scenario s = {.model = 1, .rupture_present = 1};
     s.magnitude = 450 + draw(state, 790 - 450 + 1);
-    s.distance = draw(state, 17500 + 1);
+    s.rupture_distance = draw(state, 17500 + 1);
     s.velocity = 4500 + draw(state, 20000 - 4500 + 1);
     s.mechanism = draw(state, 5);
     s.period = IDRISS_PERIODS[draw(state, OF_IDRISS)];
@@ -71,9 +72,9 @@ static fusnoch_scenario draw_idriss(uint64_t *state)
 static fusnoch_scenario draw_boore_atkinson(uint64_t *state)
 {
     static const uint8_t codes[] = {0, 1, 2, 3, 9};
-    fusnoch_scenario s = {.model = 2};
+    fusnoch_scenario s = {.model = 2, .projection_present = 1};
     s.magnitude = 500 + draw(state, 800 - 500 + 1);
-    s.distance = draw(state, 19999 + 1);
+    s.projection_distance = draw(state, 19999 + 1);
     s.velocity = 1800 + draw(state, 13000 - 1800 + 1);
     s.mechanism = codes[draw(state, sizeof codes)];
     s.period = BOORE_ATKINSON_PERIODS[draw(state, OF_BOORE_ATKINSON)];
@@ -96,20 +97,25 @@ static uint8_t *put_two(uint8_t *place, uint16_t number)
     return place;
 }
 
-/* Write the record of a scenario and return its length: a map byte, then the fields that have no absent number. */
+/* Write the record of a scenario and return its length: a map byte, then the fields that are not absent and have no
+   absent number. */
 static size_t encode(uint8_t *record, fusnoch_scenario s)
 {
     uint8_t *place = record;
-    *place++ = 7 | (s.velocity != 7600) << 3 | (s.mechanism != 9) << 4 | (s.period != 0) << 5;
+    *place++ = 3 | (s.rupture_present != 0) << 2 | (s.velocity != 7600) << 3 | (s.mechanism != 9) << 4
+             | (s.period != 0) << 5 | (s.projection_present != 0) << 6;
     *place++ = s.model;
     place = put_two(place, s.magnitude);
-    place = put_two(place, s.distance);
+    if (s.rupture_present)
+        place = put_two(place, s.rupture_distance);
     if (s.velocity != 7600)
         place = put_two(place, s.velocity);
     if (s.mechanism != 9)
         *place++ = s.mechanism;
     if (s.period != 0)
         place = put_two(place, s.period);
+    if (s.projection_present)
+        place = put_two(place, s.projection_distance);
     return (size_t)(place - record);
 }
 
@@ -328,7 +334,7 @@ static void print_fault(const char *fault, fusnoch_scenario s, const answered *a
 {
     printf("%s:\n", fault);
     printf("  model %d, magnitude %d, distance %d, velocity %d, mechanism %d, period %d\n", s.model, s.magnitude,
-           s.distance, s.velocity, s.mechanism, s.period);
+           s.model == 1 ? s.rupture_distance : s.projection_distance, s.velocity, s.mechanism, s.period);
     printf("  ours      number %d, median %lld to %lld, sigma %lld to %lld (units of 10^-9)\n", a->ours.number,
            (long long)a->ours.median_low, (long long)a->ours.median_high, (long long)a->ours.sigma_low,
            (long long)a->ours.sigma_high);

@@ -25,7 +25,7 @@ static plain_answer idriss(fusnoch_scenario s)
     size_t row = s.period == 0 ? 0 : row_of(IDRISS_PERIODS, s.period);
     const idriss_row *at = s.magnitude <= 675 ? &IDRISS_2[row] : &IDRISS_3[row];
     double m = s.magnitude * 0.01;
-    double r = s.distance * 0.01;
+    double r = s.rupture_distance * 0.01;
     double v = (s.velocity < 12000 ? s.velocity : 12000) * 0.1;
     double to_top = 8.5 - m;
     double held = (s.magnitude < 500 ? 500 : s.magnitude > 750 ? 750 : s.magnitude) * 0.01;
@@ -43,7 +43,7 @@ static plain_answer boore_atkinson(fusnoch_scenario s)
 {
     const boore_atkinson_row *at = &BOORE_ATKINSON[row_of(BOORE_ATKINSON_PERIODS, s.period)];
     double m = s.magnitude * 0.01;
-    double rjb = s.distance * 0.01;
+    double rjb = s.projection_distance * 0.01;
     double ln_v = log(s.velocity * 0.1);
     double rock = on_rock(at, m, rjb, s.mechanism);
     double bnl = slope(at, s.velocity, ln_v);

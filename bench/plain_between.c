@@ -48,7 +48,7 @@ static double weight(const interval *i, double ln_period)
 static double idriss_median(const idriss_row *at, fusnoch_scenario s, double ln_r, double ln_v)
 {
     double m = s.magnitude * 0.01;
-    double r = s.distance * 0.01;
+    double r = s.rupture_distance * 0.01;
     double to_top = 8.5 - m;
     double median = at->a1 + at->a2 * m + at->a3 * to_top * to_top - (at->b1 + at->b2 * m) * ln_r + at->xi * ln_v
                   + at->gamma * r;
@@ -60,7 +60,7 @@ static plain_answer idriss(fusnoch_scenario s)
 {
     size_t row = row_before(IDRISS_PERIODS, s.period);
     const idriss_row *at = s.magnitude <= 675 ? &IDRISS_2[row] : &IDRISS_3[row];
-    double ln_r = log(s.distance * 0.01 + 10);
+    double ln_r = log(s.rupture_distance * 0.01 + 10);
     double ln_v = log((s.velocity < 12000 ? s.velocity : 12000) * 0.1);
     double ln_period = log(s.period);
     double ln_held = s.period < 50 ? LN_0_05 : s.period > 3000 ? LN_3 : ln_period - LN_1000;
@@ -78,7 +78,7 @@ static plain_answer boore_atkinson(fusnoch_scenario s)
     size_t row = row_before(BOORE_ATKINSON_PERIODS, s.period);
     const boore_atkinson_row *at = &BOORE_ATKINSON[row], *next = at + 1;
     double m = s.magnitude * 0.01;
-    double rjb = s.distance * 0.01;
+    double rjb = s.projection_distance * 0.01;
     double ln_v = log(s.velocity * 0.1);
     double w = weight(&boore_atkinson_intervals[row], log(s.period));
     double lower = on_rock(at, m, rjb, s.mechanism) + at->blin * (ln_v - LN_760);

@@ -1,9 +1,10 @@
 """The formulas' pairs of document 01 at a fineness n, from exact sums or from sums rounded outward.
 
 Written from document 01, 'What the numbers mean' and the two models, and from W-201 of document 02 for the periods
-between the rows, apart from the pairs of models.py.  Each formula is worked out in one of two ways.  EXACT adds every
-1/k as a fraction and rounds nothing.  OUTWARD keeps 60 decimal places: every low end is rounded down and every high end
-is rounded up, so that its pair contains the exact one.
+between the rows, apart from the pairs of models.py.  A scenario's median rests on the distance that its model reads
+(W-202), and on no other.  Each formula is worked out in one of two ways.  EXACT adds every 1/k as a fraction and rounds
+nothing.  OUTWARD keeps 60 decimal places: every low end is rounded down and every high end is rounded up, so that its
+pair contains the exact one.
 """
 
 import math
@@ -171,10 +172,10 @@ def idriss_median(way, scenario, n):
 def idriss_with_row(way, number, scenario, n):
     """Return the pair of Idriss's median with a row, equation 3."""
     at = row_pairs(f'idriss-{table_of(scenario.magnitude)}', number)
-    m, r = hundredths(scenario.magnitude), hundredths(scenario.distance)
+    m, r = hundredths(scenario.magnitude), hundredths(scenario.rupture_distance)
     # "F is 0 for codes 0 and 1, and 1 for 2, 3 and 4."
     f = stated(0) if scenario.mechanism < 2 else stated(1)
-    ln_r = way.ln(scenario.distance + 1000, 100, n)
+    ln_r = way.ln(scenario.rupture_distance + 1000, 100, n)
     # "V above 1200 counts as 1200."
     ln_v = way.ln(min(scenario.velocity, 12000), 10, n)
     squared = times(way, sub(stated('8.5'), m), sub(stated('8.5'), m))
@@ -200,7 +201,7 @@ def on_rock(way, number, scenario, n):
     """Return the pair of distance term and magnitude term with a row; with row 0 it is p."""
     at = {**row_pairs('boore-atkinson-6', number), **row_pairs('boore-atkinson-7', number)}
     m = hundredths(scenario.magnitude)
-    x = scenario.distance ** 2 + int(100 * at['h'].low) ** 2
+    x = scenario.projection_distance ** 2 + int(100 * at['h'].low) ** 2
     # "ln R is half of ln(R²)"; Mref 4.5, Rref 1 km.
     ln_r = times(way, stated(Fraction(1, 2)), way.ln(x, 10000, n))
     r = over(way, root_pair(x, n), stated(100))

@@ -10,6 +10,8 @@ A formula is worked out with a row, counted from 0.  A function whose name ends 
 accepted period instead: 0, a tabled one, or one between two rows.  Idriss's sigma has the period in its formula.
 
 Fields are whole numbers in document 01's units: magnitude 0.01, distance 0.01 km, velocity 0.1 m/s, period 0.001 s.
+Each model is given the distance that it reads, and no other: Idriss the rupture distance, Boore-Atkinson the distance
+to the surface projection (W-202 of document 02).
 """
 
 import os
@@ -101,7 +103,7 @@ def site_value(name):
 # ---------------------------------------------------------------------------
 
 class Limits(NamedTuple):
-    """What a model accepts: first and last number of a field, and the codes of the mechanism."""
+    """What a model accepts: first and last number of a field, the distance its own, and the codes of the mechanism."""
 
     magnitude: Tuple[int, int]
     distance: Tuple[int, int]
@@ -119,9 +121,9 @@ def within(number, limits):
     return limits[0] <= number <= limits[1]
 
 
-def accepted(limits, row, magnitude, distance, velocity, mechanism):
+def accepted(limits, row, magnitude, own_distance, velocity, mechanism):
     """Say whether a model accepts a row and the fields of a scenario."""
-    return (within(row, (0, ROWS - 1)) and within(magnitude, limits.magnitude) and within(distance, limits.distance)
+    return (within(row, (0, ROWS - 1)) and within(magnitude, limits.magnitude) and within(own_distance, limits.distance)
             and within(velocity, limits.velocity) and mechanism in limits.mechanism)
 
 
@@ -198,13 +200,13 @@ def distance_factor(row, magnitude):
     return at['c1'] + at['c2'] * (Fraction(magnitude, 100) - Fraction('4.5'))
 
 
-def sum_of_squares(row, distance):
+def sum_of_squares(row, projection_distance):
     """Return X: the squares of the projection distance and of h, both in hundredths, added."""
     # "With RJB and h in hundredths the sum of squares is a whole X."
     h = row_of('boore-atkinson-6', row)['h'] * 100
     if h.denominator != 1:
         raise ValueError(f'h of row {row} is not whole in hundredths')
-    return distance ** 2 + int(h) ** 2
+    return projection_distance ** 2 + int(h) ** 2
 
 
 def boore_atkinson_sigma(row, mechanism):
@@ -261,20 +263,20 @@ def weighted(exact, *terms):
     return outward(Pair(low, high))
 
 
-def idriss_median(table, row, magnitude, distance, velocity, mechanism):
+def idriss_median(table, row, magnitude, rupture_distance, velocity, mechanism):
     """Return a pair around the real median of Idriss, equation 3."""
     at = row_of(f'idriss-{table}', row)
-    exact = alpha_part(table, row, magnitude) + at['γ'] * Fraction(distance, 100)
+    exact = alpha_part(table, row, magnitude) + at['γ'] * Fraction(rupture_distance, 100)
     exact += at['φ'] * reverse_or_oblique(mechanism)
     # "V above 1200 counts as 1200."
-    return weighted(exact, (-beta_factor(table, row, magnitude), real_ln(distance + 1000, 100)),
+    return weighted(exact, (-beta_factor(table, row, magnitude), real_ln(rupture_distance + 1000, 100)),
                     (at['ξ'], real_ln(min(velocity, 12000), 10)))
 
 
-def idriss_median_at(table, period, magnitude, distance, velocity, mechanism):
+def idriss_median_at(table, period, magnitude, rupture_distance, velocity, mechanism):
     """Return a pair around the real median of Idriss at an accepted period, with one of its tables."""
     return by_period(records.IDRISS, period,
-                     lambda row: idriss_median(table, row, magnitude, distance, velocity, mechanism), between)
+                     lambda row: idriss_median(table, row, magnitude, rupture_distance, velocity, mechanism), between)
 
 
 def idriss_sigma(period, magnitude):
@@ -286,10 +288,10 @@ def idriss_sigma(period, magnitude):
     return weighted(exact, (Fraction('0.035'), real_ln(t, 1000)))
 
 
-def on_rock(row, magnitude, distance, mechanism):
+def on_rock(row, magnitude, projection_distance, mechanism):
     """Return a pair around the real distance term and magnitude term of Boore-Atkinson, added."""
     c3 = row_of('boore-atkinson-6', row)['c3']
-    x = sum_of_squares(row, distance)
+    x = sum_of_squares(row, projection_distance)
     # "R is its root over 100 and R² is X/10000"; "ln R is half of ln(R²)"; Rref is 1 km for every row, as "Caption 6
     # names Rref 5 for it; the text equates it with PGA, and 1 km is used."
     return weighted(magnitude_term(row, magnitude, mechanism) - c3,
@@ -297,10 +299,10 @@ def on_rock(row, magnitude, distance, mechanism):
 
 
 @lru_cache(maxsize=1)
-def rock_acceleration(magnitude, distance, mechanism):
+def rock_acceleration(magnitude, projection_distance, mechanism):
     """Return a pair around the real p, the logarithm of the rock acceleration; the same for both rows of a period."""
     # "The PGA row with the scenario's own mechanism, no site term."
-    return on_rock(0, magnitude, distance, mechanism)
+    return on_rock(0, magnitude, projection_distance, mechanism)
 
 
 @lru_cache(maxsize=None)
@@ -361,18 +363,19 @@ def nonlinear_range(row, velocity, p):
     return outward(mul(slope(row, velocity), nonlinear_over_slope(p)))
 
 
-def boore_atkinson_median(row, magnitude, distance, velocity, mechanism):
+def boore_atkinson_median(row, magnitude, projection_distance, velocity, mechanism):
     """Return a pair around the real median of Boore-Atkinson, equations 1 to 13."""
     linear = weighted(0, (row_of('boore-atkinson-3', row)['blin'], real_ln(velocity, 7600)))
-    nonlinear = nonlinear_range(row, velocity, rock_acceleration(magnitude, distance, mechanism))
-    return add(add(on_rock(row, magnitude, distance, mechanism), linear), nonlinear)
+    nonlinear = nonlinear_range(row, velocity, rock_acceleration(magnitude, projection_distance, mechanism))
+    return add(add(on_rock(row, magnitude, projection_distance, mechanism), linear), nonlinear)
 
 
-def boore_atkinson_median_at(period, magnitude, distance, velocity, mechanism):
+def boore_atkinson_median_at(period, magnitude, projection_distance, velocity, mechanism):
     """Return a pair around the real median of Boore-Atkinson at an accepted period."""
     # Each of the two rows has its own site term, with the same p.
     return by_period(records.BOORE_ATKINSON, period,
-                     lambda row: boore_atkinson_median(row, magnitude, distance, velocity, mechanism), between)
+                     lambda row: boore_atkinson_median(row, magnitude, projection_distance, velocity, mechanism),
+                     between)
 
 
 @lru_cache(maxsize=None)
@@ -460,23 +463,23 @@ def by_period_pair(model, period, by_row, n):
                      lambda t, lower, upper, v1, v2: between_pair(t, lower, upper, v1, v2, n))
 
 
-def idriss_median_pair(table, row, magnitude, distance, velocity, mechanism, n):
+def idriss_median_pair(table, row, magnitude, rupture_distance, velocity, mechanism, n):
     """Return the formula's pair of the median of Idriss."""
     a1, a2, a3, b1, b2, xi, gamma, phi = map(stated, row_of(f'idriss-{table}', row).values())
-    m, r = stated(Fraction(magnitude, 100)), stated(Fraction(distance, 100))
+    m, r = stated(Fraction(magnitude, 100)), stated(Fraction(rupture_distance, 100))
     ln_v = formula_ln(12000 if velocity > 12000 else velocity, 10, n)
     f = stated(1 if mechanism in (2, 3, 4) else 0)
     from_top = sub(stated('8.5'), m)
     # α1 + α2 M + α3 (8.5 − M)² − (β1 + β2 M) ln(R + 10) + ξ ln V + γ R + φ F
     alpha = total(a1, mul(a2, m), product(a3, from_top, from_top))
-    beta = mul(add(b1, mul(b2, m)), formula_ln(distance + 1000, 100, n))
+    beta = mul(add(b1, mul(b2, m)), formula_ln(rupture_distance + 1000, 100, n))
     return total(sub(alpha, beta), mul(xi, ln_v), mul(gamma, r), mul(phi, f))
 
 
-def idriss_median_at_pair(table, period, magnitude, distance, velocity, mechanism, n):
+def idriss_median_at_pair(table, period, magnitude, rupture_distance, velocity, mechanism, n):
     """Return the formula's pair of the median of Idriss at an accepted period, with one of its tables."""
     return by_period_pair(records.IDRISS, period, lambda row: idriss_median_pair(
-        table, row, magnitude, distance, velocity, mechanism, n), n)
+        table, row, magnitude, rupture_distance, velocity, mechanism, n), n)
 
 
 def idriss_sigma_pair(period, magnitude, n):
@@ -490,11 +493,11 @@ def idriss_sigma_pair(period, magnitude, n):
     return sub(add(stated('1.18'), mul(stated('0.035'), formula_ln(period, 1000, n))), mul(stated('0.06'), stated(m)))
 
 
-def distance_pair(row, magnitude, distance, n):
+def distance_pair(row, magnitude, projection_distance, n):
     """Return the formula's pair of the distance term of Boore-Atkinson."""
     c1, c2, c3, h = map(stated, row_of('boore-atkinson-6', row).values())
     m, m_ref, r_ref = stated(Fraction(magnitude, 100)), stated('4.5'), stated(1)
-    x = distance * distance + int(h.low * 100) ** 2
+    x = projection_distance * projection_distance + int(h.low * 100) ** 2
     r = div(root_pair(x, n), stated(100))
     # "Where ln R is half of ln(R²)"; Rref is 1, so that ln(R/Rref) is ln R.
     ln_r = mul(stated(Fraction(1, 2)), formula_ln(x, 10000, n))
@@ -518,9 +521,9 @@ def magnitude_pair(row, magnitude, mechanism):
     return total(e, mul(e5, above), product(e6, above, above))
 
 
-def rock_pair(row, magnitude, distance, mechanism, n):
+def rock_pair(row, magnitude, projection_distance, mechanism, n):
     """Return the formula's pair on rock; for row 0 it is p, the logarithm of the rock acceleration."""
-    return add(distance_pair(row, magnitude, distance, n), magnitude_pair(row, magnitude, mechanism))
+    return add(distance_pair(row, magnitude, projection_distance, n), magnitude_pair(row, magnitude, mechanism))
 
 
 @lru_cache(maxsize=None)
@@ -568,13 +571,13 @@ def span_reached(p, lower, upper, branches):
     return Pair(min(r.low for r in reached), max(r.high for r in reached))
 
 
-def boore_atkinson_median_pair(row, magnitude, distance, velocity, mechanism, n):
+def boore_atkinson_median_pair(row, magnitude, projection_distance, velocity, mechanism, n):
     """Return the formula's pair of the median of Boore-Atkinson."""
     # "The Boore-Atkinson median is the distance term, the magnitude term, the linear part and the nonlinear part
     # added."
     blin = stated(row_of('boore-atkinson-3', row)['blin'])
-    p = rock_pair(0, magnitude, distance, mechanism, n)
-    return total(distance_pair(row, magnitude, distance, n), magnitude_pair(row, magnitude, mechanism),
+    p = rock_pair(0, magnitude, projection_distance, mechanism, n)
+    return total(distance_pair(row, magnitude, projection_distance, n), magnitude_pair(row, magnitude, mechanism),
                  mul(blin, formula_ln(velocity, 7600, n)), nonlinear_pair(row, velocity, p, n))
 
 
@@ -584,10 +587,10 @@ def boore_atkinson_sigma_pair(row, mechanism):
     return stated(unspecified if mechanism == 9 else specified)
 
 
-def boore_atkinson_median_at_pair(period, magnitude, distance, velocity, mechanism, n):
+def boore_atkinson_median_at_pair(period, magnitude, projection_distance, velocity, mechanism, n):
     """Return the formula's pair of the median of Boore-Atkinson at an accepted period."""
     return by_period_pair(records.BOORE_ATKINSON, period, lambda row: boore_atkinson_median_pair(
-        row, magnitude, distance, velocity, mechanism, n), n)
+        row, magnitude, projection_distance, velocity, mechanism, n), n)
 
 
 def boore_atkinson_sigma_at_pair(period, mechanism, n):

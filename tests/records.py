@@ -1,21 +1,25 @@
 """Scenarios and records of document 01, as plain functions on whole numbers and bytes.
 
-Written from document 01 alone: 'The scenario', 'Records and doubles' and 'What is turned away'; and, for the periods
-between the rows, from W-201 of document 02.
+Written from the papers' text alone: document 01, 'The scenario', 'Records and doubles' and 'What is turned away'; and
+document 02, W-201 for the periods between the rows, W-202 for the two distances.
 """
 
-from typing import NamedTuple
+from typing import NamedTuple, Optional
 
 
 class Scenario(NamedTuple):
-    """The fields of a scenario, whole numbers in the units named here."""
+    """The fields of a scenario in the order of a record, whole numbers in the units named here.
+
+    W-202: "An absent distance has no number, not even 0"; it is None here.
+    """
 
     model: int
     magnitude: int  # 0.01
-    distance: int  # 0.01 km
+    rupture_distance: Optional[int]  # 0.01 km
     velocity: int  # 0.1 m/s
     mechanism: int  # code
     period: int  # 0.001 s
+    projection_distance: Optional[int]  # 0.01 km
 
 
 # ---------------------------------------------------------------------------
@@ -25,7 +29,12 @@ class Scenario(NamedTuple):
 IDRISS = 1
 BOORE_ATKINSON = 2
 
-# The limits of each model, both of them included.
+# W-202: "each model must read its own"; 'The scenario': "to the rupture", "to its surface projection".
+OWN_DISTANCE = {IDRISS: 'rupture_distance', BOORE_ATKINSON: 'projection_distance'}
+OTHER_DISTANCE = {IDRISS: 'projection_distance', BOORE_ATKINSON: 'rupture_distance'}
+NO_DISTANCES = {'rupture_distance': None, 'projection_distance': None}
+
+# The limits of each model, both of them included; that of the distance is for the one that the model reads.
 MAGNITUDE = {IDRISS: (450, 790), BOORE_ATKINSON: (500, 800)}
 DISTANCE = {IDRISS: (0, 17500), BOORE_ATKINSON: (0, 19999)}
 VELOCITY = {IDRISS: (4500, 20000), BOORE_ATKINSON: (1800, 13000)}
@@ -54,28 +63,62 @@ def beyond(number, limits):
     return number < low or number > high
 
 
+def own_distance(scenario):
+    """Return the distance that model 1 or 2 reads, or None where it is absent."""
+    return getattr(scenario, OWN_DISTANCE[scenario.model])
+
+
+def lacks_distance(scenario):
+    """Say whether the distance that the model reads is absent."""
+    # W-202: "A model that is neither 1 nor 2 needs no distance."
+    return scenario.model in OWN_DISTANCE and own_distance(scenario) is None
+
+
+def distances_crossed(scenario):
+    """Say whether both distances stand and that to the projection exceeds that to the rupture."""
+    rupture, projection = scenario.rupture_distance, scenario.projection_distance
+    return rupture is not None and projection is not None and projection > rupture
+
+
 def refusal(scenario):
-    """Return the first of 1 to 6 that turns the scenario away, or 0."""
-    model, magnitude, distance, velocity, mechanism, period = scenario
+    """Return the first of 9 (for the distance), 13 and 1 to 6 that turns the scenario away, or 0."""
+    model = scenario.model
+    # 9 wanting: W-202, "Writing and answering begin with 9 for the distance."
+    if lacks_distance(scenario):
+        return 9
+    # 13 distances: "checked after 9 for the distance and just before 1", for any model
+    if distances_crossed(scenario):
+        return 13
     # 1 model: neither 1 nor 2
     if model not in (IDRISS, BOORE_ATKINSON):
         return 1
     # 2 magnitude: beyond the model's limits
-    if beyond(magnitude, MAGNITUDE[model]):
+    if beyond(scenario.magnitude, MAGNITUDE[model]):
         return 2
-    # 3 distance: likewise
-    if beyond(distance, DISTANCE[model]):
+    # 3 distance: W-202, "The limit of refusal 3 is applied to the distance that the model reads."
+    if beyond(own_distance(scenario), DISTANCE[model]):
         return 3
     # 4 velocity: likewise
-    if beyond(velocity, VELOCITY[model]):
+    if beyond(scenario.velocity, VELOCITY[model]):
         return 4
     # 5 mechanism: not a code of the model
-    if mechanism not in MECHANISM[model]:
+    if scenario.mechanism not in MECHANISM[model]:
         return 5
     # 6 period: W-201, "Refusal 6 is left with 1 to 9 and above 10000"
-    if not accepts_period(period):
+    if not accepts_period(scenario.period):
         return 6
     return 0
+
+
+def with_own_distance(model, magnitude, distance, velocity, mechanism, period):
+    """Return a scenario of model 1 or 2 that has the distance that the model reads, and no other."""
+    fields = {'magnitude': magnitude, 'velocity': velocity, 'mechanism': mechanism, 'period': period}
+    return Scenario(model=model, **fields, **{**NO_DISTANCES, OWN_DISTANCE[model]: distance})
+
+
+def without_other_distance(scenario):
+    """Return a scenario of model 1 or 2 without the distance that the model does not read; it is answered alike."""
+    return scenario._replace(**{OTHER_DISTANCE[scenario.model]: None})
 
 
 def accepts_period(period):
@@ -138,10 +181,13 @@ def rows(model, period):
 # Records
 # ---------------------------------------------------------------------------
 
-# The fields and their bytes, in the order of bits 0 to 5 of the map byte.
-FIELDS = (('model', 1), ('magnitude', 2), ('distance', 2), ('velocity', 2), ('mechanism', 1), ('period', 2))
+# The fields and their bytes, in the order of bits 0 to 6 of the map byte.  W-202: "Bit 2 becomes the rupture distance.
+# Bit 6 becomes the distance to the surface projection, 2 bytes, after the period."
+FIELDS = (('model', 1), ('magnitude', 2), ('rupture_distance', 2), ('velocity', 2), ('mechanism', 1), ('period', 2),
+          ('projection_distance', 2))
 
-# "An absent velocity is 7600, mechanism 9, period 0".
+# "An absent velocity is 7600, mechanism 9, period 0".  W-202: "An absent distance has no number, not even 0", so that
+# no number of a distance is a plain default.
 ABSENT = {'velocity': 7600, 'mechanism': 9, 'period': 0}
 
 
@@ -161,11 +207,11 @@ def read(data):
     if len(data) == 0:
         return turned_away(7)
     map_byte = data[0]
-    # 8 spare bit: bit 6 or 7 stands
-    if stands(map_byte, 6) or stands(map_byte, 7):
+    # 8 spare bit: W-202, "Only bit 7 is spare now."
+    if stands(map_byte, 7):
         return turned_away(8)
-    # 9 wanting: bit 0, 1 or 2 is clear
-    if not (stands(map_byte, 0) and stands(map_byte, 1) and stands(map_byte, 2)):
+    # 9 wanting: bit 0 or 1 is clear; W-202, "9 for bits 0 and 1 keeps its place"
+    if not (stands(map_byte, 0) and stands(map_byte, 1)):
         return turned_away(9)
     # 10 blank: no bit stands (never reached, as 9 comes first)
     if map_byte == 0:
@@ -185,8 +231,8 @@ def read(data):
     for name, number in ABSENT.items():
         if name in written and written[name] == number:
             return turned_away(11)
-    # then 1 to 6
-    scenario = Scenario(**{**ABSENT, **written})
+    # then 9 for the distance, 13 and 1 to 6: W-202, "9 for the distance comes after 11"
+    scenario = Scenario(**{**NO_DISTANCES, **ABSENT, **written})
     number = refusal(scenario)
     if number != 0:
         return turned_away(number)
@@ -199,8 +245,8 @@ def record(scenario):
     fields = b''
     for bit, (name, size) in enumerate(FIELDS):
         number = getattr(scenario, name)
-        # "a field with that number is never written"
-        if name in ABSENT and number == ABSENT[name]:
+        # "a field with that number is never written"; and an absent distance has no number to write
+        if number is None or name in ABSENT and number == ABSENT[name]:
             continue
         map_byte += 2 ** bit
         fields += number.to_bytes(size, 'little')
@@ -209,7 +255,7 @@ def record(scenario):
 
 def write(scenario, lent):
     """Return ('R', number, lent bytes unchanged) or ('L', length of the record, lent bytes afterwards)."""
-    # 1 to 6, then 12 page full: lent bytes shorter than the record
+    # 9 for the distance, 13 and 1 to 6, then 12 page full: lent bytes shorter than the record
     number = refusal(scenario)
     if number != 0:
         return 'R', number, lent

@@ -1,35 +1,50 @@
 """Streams of records for the program that reads records and prints enclosures.
 
-Written from document 01, 'The scenario', 'Records and doubles' and 'What is turned away', and W-201 of document 02, by
-way of records.py.  A stream is a run of accepted records, at times ended by a damaged or refused one or by a cut.  A
-refused record ends its stream, so each costs a process.  The refusal 10 cannot occur: its condition is that no bit
-stands, and 9 (bit 0, 1 or 2 is clear) is checked before it.  Nor can 12, which belongs to writing.
+Written from document 01, 'The scenario', 'Records and doubles' and 'What is turned away', and W-201 and W-202 of
+document 02, by way of records.py.  A stream is a run of accepted records, at times ended by a damaged or refused one or
+by a cut.  A refused record ends its stream, so each costs a process.  The refusal 10 cannot occur: its condition is
+that no bit stands, and 9 (bit 0 or 1 is clear) is checked before it.  Nor can 12, which belongs to writing.
+
+A scenario's own distance is the one that its model reads, the other one may be absent.
 """
 
-from itertools import combinations
+from itertools import combinations, product
 from typing import NamedTuple, Optional, Tuple
 
 import models
-from records import (ABSENT, BOORE_ATKINSON, DISTANCE, FIELDS, IDRISS, MAGNITUDE, MECHANISM, PERIOD, PERIODS, VELOCITY,
-                     Scenario, between_rows, read, record)
+from records import (ABSENT, BOORE_ATKINSON, DISTANCE, FIELDS, IDRISS, MAGNITUDE, MECHANISM, NO_DISTANCES,
+                     OTHER_DISTANCE, OWN_DISTANCE, PERIOD, PERIODS, VELOCITY, Scenario, between_rows, own_distance,
+                     read, record, with_own_distance, without_other_distance)
 from test_models import closest, draw_fields, hinges
 
 # "It takes the first 4,096 bytes and ignores the rest."
 TAKEN = 4096
 LIMITS = {IDRISS: models.IDRISS, BOORE_ATKINSON: models.BOORE_ATKINSON}
-# The first and the last number of each wide field, by model; period 0 is accepted besides.
+# The first and the last number of each wide field, by model, the distance its own; period 0 is accepted besides.
 WIDE_FIELDS = {'magnitude': MAGNITUDE, 'distance': DISTANCE, 'velocity': VELOCITY,
                'period': {model: PERIOD for model in (IDRISS, BOORE_ATKINSON)}}
 FIELD_END = 65535
 # Periods that both models turn away: W-201, "1 to 9 and above 10000".
 REFUSED_PERIODS = (1, 9, 10001, FIELD_END)
 
-# Map bytes in which bits 0 to 2 stand, 6 and 7 are clear.
-GOOD_MAPS = (0x07, 0x0f, 0x17, 0x1f, 0x27, 0x2f, 0x37, 0x3f)
-# Accepted scenarios, every field of which has to be written.
-WHOLE = {IDRISS: Scenario(1, 700, 1000, 7500, 2, 75), BOORE_ATKINSON: Scenario(2, 650, 258, 3600, 1, 200)}
-# For each model, numbers that are turned away by the refusals 1 to 6, in the order of the fields.
-WRONG = {IDRISS: Scenario(0, 449, 17501, 20001, 5, 9), BOORE_ATKINSON: Scenario(3, 801, 20000, 1799, 4, 10001)}
+# Map bytes in which bits 0 and 1 stand and 7 is clear, and the bit of the distance that a model reads.
+MAPS = tuple(range(0x03, 0x80, 4))
+OWN_BIT = {IDRISS: 0x04, BOORE_ATKINSON: 0x40}
+# Half of those with this bit: the other distance stands where the velocity does.
+SOME_MAPS = {model: tuple(map_byte for map_byte in MAPS if map_byte & 0x4c in (OWN_BIT[model], 0x4c))
+             for model in OWN_BIT}
+# The bytes of the longest record, and of the longest with one distance.
+LONGEST, LONGEST_WITH_ONE = 13, 11
+# Accepted scenarios, every field of which has to be written.  The model's own distance can be changed, to a number from
+# 258 on in Idriss and up to 60001 in Boore-Atkinson, and there is still no reason for 13.
+WHOLE = {IDRISS: Scenario(1, 700, 1000, 7500, 2, 75, 258), BOORE_ATKINSON: Scenario(2, 650, 60001, 3600, 1, 200, 258)}
+# For each model, numbers that are turned away by the refusals 1 to 6, in their order.
+WRONG = {IDRISS: {'model': 0, 'magnitude': 449, 'rupture_distance': 17501, 'velocity': 20001, 'mechanism': 5,
+                  'period': 9},
+         BOORE_ATKINSON: {'model': 3, 'magnitude': 801, 'projection_distance': 20000, 'velocity': 1799, 'mechanism': 4,
+                          'period': 10001}}
+# Numbers of a distance, or none: equal, next to each other, to both limits and to the ends of the field.
+DISTANCES = (None, 0, 1, 1000, 1001, 17500, 17501, 19999, 20000, FIELD_END)
 
 
 class Stream(NamedTuple):
@@ -74,19 +89,21 @@ def written(kind, scenarios, **others):
 
 
 def sized(length, turn=0):
-    """Return an accepted record of so many bytes, 6 to 11; neighbouring turns differ."""
+    """Return an accepted record of so many bytes, 6 to 13, from 12 on with both distances; each turn is another."""
     optional = {6: (), 7: ('mechanism',), 8: ('velocity',), 9: ('mechanism', 'period'), 10: ('velocity', 'period'),
-                11: ('velocity', 'mechanism', 'period')}[length]
+                11: ('velocity', 'mechanism', 'period')}[length if length <= LONGEST_WITH_ONE else length - 2]
     given = {'velocity': 1800 + 37 * turn % 5000, 'mechanism': turn % 4, 'period': PERIODS[2][turn % 21]}
     fields = {**ABSENT, **{name: given[name] for name in optional}}
-    return record(Scenario(BOORE_ATKINSON, 500 + 7 * turn % 301, 131 * turn % 20000, **fields))
+    own = 131 * turn % 20000
+    other = None if length <= LONGEST_WITH_ONE else own + 97 * turn % 40000
+    return record(Scenario(BOORE_ATKINSON, 500 + 7 * turn % 301, other, projection_distance=own, **fields))
 
 
-def filled(size):
-    """Return accepted records of all lengths that take up just so many bytes, from 12 on."""
+def filled(size, longest=LONGEST):
+    """Return accepted records of all lengths up to the longest that take up just so many bytes, from 12 on."""
     data, turn = b'', 0
-    while size - len(data) > 22:
-        data += sized(6 + turn % 6, turn)
+    while size - len(data) > 2 * longest:
+        data += sized(6 + turn % (longest - 5), turn)
         turn += 1
     left = size - len(data)
     return data + sized(left // 2, turn) + sized(left - left // 2, turn + 1)
@@ -131,13 +148,27 @@ def draw_period(rng, model):
 # Accepted scenarios
 # ---------------------------------------------------------------------------
 
+def draw_other(rng, model, own):
+    """Draw the distance that a model does not read: absent every other time, and never a reason for 13."""
+    least, most = (0, own) if model == IDRISS else (own, FIELD_END)
+    return rng.choice((None, None, None, own, rng.randint(least, most), rng.choice((least, most))))
+
+
 def within(rng, model, **given):
-    """Draw a scenario within the model's limits, some fields given; each absent number stands at times."""
+    """Draw a scenario within the model's limits, some fields and its own distance given; absent numbers at times."""
     magnitude, distance, velocity, mechanism = draw_fields(rng, LIMITS[model])
     if rng.randrange(6) == 0:
         velocity = ABSENT['velocity']
-    period = draw_period(rng, model)
-    return Scenario(model, magnitude, distance, velocity, mechanism, period)._replace(**given)
+    fields = {'magnitude': magnitude, 'distance': distance, 'velocity': velocity, 'mechanism': mechanism,
+              'period': draw_period(rng, model), **given}
+    other = draw_other(rng, model, fields['distance'])
+    return with_own_distance(model, **fields)._replace(**{OTHER_DISTANCE[model]: other})
+
+
+def crossing(scenario):
+    """Return a scenario of model 1 or 2 with the other distance such that the one to the projection is greater by 1."""
+    step = 1 if scenario.model == IDRISS else -1
+    return scenario._replace(**{OTHER_DISTANCE[scenario.model]: own_distance(scenario) + step})
 
 
 CROSSED = {
@@ -148,7 +179,7 @@ CROSSED = {
 
 
 def accepts(model, field, number):
-    """Say whether a model accepts a number of magnitude, distance or velocity."""
+    """Say whether a model accepts a number of magnitude, its own distance or velocity."""
     return models.within(number, getattr(LIMITS[model], field))
 
 
@@ -205,7 +236,7 @@ def sigmas():
     # Among them are 49, 50, 51, 2999, 3000 and 3001: "T in seconds held to 0.05 to 3".
     for period in (0, *PERIODS[IDRISS], *untabled(IDRISS)):
         for magnitude in (450, 499, 500, 501, 625, 749, 750, 751, 790):
-            yield Scenario(IDRISS, magnitude, 5000, 6000, 4, period)
+            yield with_own_distance(IDRISS, magnitude, 5000, 6000, 4, period)
 
 
 def thresholds(rng):
@@ -213,16 +244,17 @@ def thresholds(rng):
     for period in (0, *PERIODS[BOORE_ATKINSON], *middles(BOORE_ATKINSON)):
         for velocity in (1800, 1801, 2400, 3000, 3001, 5000, 7599, 7600, 13000):
             # Its p is 11 units from ln 0.09.
-            yield Scenario(BOORE_ATKINSON, 754, 6065, velocity, 0, period)
+            yield with_own_distance(BOORE_ATKINSON, 754, 6065, velocity, 0, period)
     for number in (0.03, 0.09):
         for magnitude, distance, mechanism in closest(number, 60):
             # Two of them with 0 or a tabled period, two between the rows.
             rows = rng.sample((0, *PERIODS[BOORE_ATKINSON]), 2)
             for period in (*rows, *(draw_untabled(rng, BOORE_ATKINSON) for _ in range(2))):
-                yield Scenario(BOORE_ATKINSON, magnitude, distance, rng.randint(1800, 7599), mechanism, period)
+                velocity = rng.randint(1800, 7599)
+                yield with_own_distance(BOORE_ATKINSON, magnitude, distance, velocity, mechanism, period)
 
 
-# Scenarios whose median is within 4 units of 0, so that its ends change sign or are 0.
+# Scenarios whose median is within 4 units of 0, so that its ends change sign or are 0; the distance is the model's own.
 NEXT_TO_ZERO = (
     (1, 649, 39, 5125, 2, 30), (1, 553, 17, 5254, 2, 100), (1, 686, 413, 5666, 0, 100), (1, 687, 160, 9485, 2, 150),
     (1, 677, 836, 4700, 2, 150), (1, 650, 57, 8244, 0, 200), (1, 670, 5, 7753, 0, 300), (1, 734, 467, 5772, 2, 300),
@@ -239,8 +271,11 @@ def byte_order():
     for model in (IDRISS, BOORE_ATKINSON):
         for magnitude in (513, 515, 770):
             for distance in (1, 256, 258, 513, 13330):
-                for period in (300, 258, 513, 2561):
-                    yield Scenario(model, magnitude, distance, 4864, 3, period)
+                for turn, period in enumerate((300, 258, 513, 2561)):
+                    scenario = with_own_distance(model, magnitude, distance, 4864, 3, period)
+                    # Every other time with another distance, which is no reason for 13 this way round.
+                    other = (None, {IDRISS: distance // 256, BOORE_ATKINSON: 0xfe00 + distance % 256}[model])[turn % 2]
+                    yield scenario._replace(**{OTHER_DISTANCE[model]: other})
 
 
 def short_idriss(rng, periods):
@@ -305,35 +340,50 @@ def at_limits(rng):
             yield within(rng, model, mechanism=code)
         for period in (0, *PERIODS[model], *untabled(model), *REFUSED_PERIODS, 2, 5, 256 + 75, 32768 + 75, 32768 + 70):
             yield within(rng, model, period=period)
+    # In a model that is neither 1 nor 2 no distance has to stand.
     for model in (0, 1, 2, 3, 4, 9, 127, 128, 129, 254, 255):
         yield WHOLE[IDRISS]._replace(model=model)
+        yield WHOLE[IDRISS]._replace(model=model, **NO_DISTANCES)
+
+
+def of_two_distances():
+    """Yield scenarios of both models with each two distances, and some of another model, which can get 13, too."""
+    for model, rupture, projection in product((IDRISS, BOORE_ATKINSON), DISTANCES, DISTANCES):
+        yield WHOLE[model]._replace(rupture_distance=rupture, projection_distance=projection)
+    for rupture, projection in product(DISTANCES[:5], DISTANCES[:5]):
+        yield WHOLE[IDRISS]._replace(model=3, rupture_distance=rupture, projection_distance=projection)
 
 
 def orders():
-    """Yield records in which several refusals apply: document 01's order decides."""
-    for model in (IDRISS, BOORE_ATKINSON):
-        wrong = WRONG[model]._asdict()
-        for size in (1, 2, 6):
+    """Yield records in which several refusals apply: document 01's order, and W-202's, decides."""
+    for model, own_bit in OWN_BIT.items():
+        wrong = WRONG[model]
+        for size in (0, 1, 2, 6):
             for names in combinations(wrong, size):
                 scenario = WHOLE[model]._replace(**{name: wrong[name] for name in names})
-                whole = raw(0x3f, scenario)
-                yield whole
-                # 7 comes before 1 to 6, 8 and 9 before that.
+                # 9 for the distance comes before 1 to 6, but needs a model that is 1 or 2; 13 just before 1.
+                crossed = crossing(scenario._replace(model=model))._replace(model=scenario.model)
+                yield from (raw(0x7f, scenario), raw(0x7f, crossed), raw(0x7f & ~own_bit, scenario))
+                # 7 comes before these, 8 and 9 before that.
                 if size != 2:
-                    yield whole[:-1]
-                    yield raw(0x7f, scenario)
-                    yield raw(0x3d, scenario)
-        for name, number in wrong.items():
-            for default in ABSENT:
-                if name != default:
-                    # 11 comes before 1 to 6.
-                    yield raw(0x3f, WHOLE[model]._replace(**{name: number, default: ABSENT[default]}))
+                    yield raw(0x7f, scenario)[:-1]
+                    yield raw(0x7f, crossed)[:-1]
+                    yield raw(0x7f & ~own_bit, scenario)[:-1]
+                    yield from (raw(map_byte, crossed) for map_byte in (0xff, 0x7d, 0x7e))
+        for (name, number), default in product(wrong.items(), ABSENT):
+            if name != default:
+                # 11 comes before 9 for the distance, 13 and 1 to 6.
+                scenario = WHOLE[model]._replace(**{name: number, default: ABSENT[default]})
+                yield raw(0x7f, scenario)
+                yield raw(0x7f & ~own_bit, scenario)
+        for default in ABSENT:
+            yield raw(0x7f, crossing(WHOLE[model])._replace(**{default: ABSENT[default]}))
 
 
 def defaults():
     """Yield records with each choice of fields, and of absent numbers among those that are written."""
     for model in (IDRISS, BOORE_ATKINSON):
-        for map_byte in GOOD_MAPS:
+        for map_byte in SOME_MAPS[model]:
             for size in range(4):
                 for names in combinations(ABSENT, size):
                     yield raw(map_byte, WHOLE[model]._replace(**{name: ABSENT[name] for name in names}))
@@ -343,22 +393,30 @@ def not_defaults():
     """Yield scenarios with numbers next to an absent one, or with its two bytes, which are no absent ones."""
     for velocity in (7599, 7601, 7344, 7856, 0x1d00, 0x1db1):
         yield WHOLE[BOORE_ATKINSON]._replace(velocity=velocity)
-    for name in ('distance', 'velocity', 'period'):
+    for name in ('projection_distance', 'velocity', 'period'):
         for number in (0, 9, 7600):
             yield WHOLE[BOORE_ATKINSON]._replace(**{name: number})
+    for number in (0, 9, 7600):
+        yield WHOLE[IDRISS]._replace(rupture_distance=number, projection_distance=None)
+        yield WHOLE[IDRISS]._replace(rupture_distance=number, projection_distance=0)
+        yield WHOLE[IDRISS]._replace(rupture_distance=7600, projection_distance=number)
+        yield WHOLE[BOORE_ATKINSON]._replace(rupture_distance=number, projection_distance=0)
 
 
 def map_bytes():
     """Yield every map byte with all the bytes that it calls for, and all but the last of them."""
     for map_byte in range(256):
-        yield raw(map_byte, WHOLE[BOORE_ATKINSON]) + (b'\x00' if map_byte & 0x47 != 0x07 else b'')
-        if map_byte not in GOOD_MAPS and map_byte % 64 in (0, *GOOD_MAPS, 0x3e, 0x05, 0x03):
+        for model in (IDRISS, BOORE_ATKINSON) if map_byte in MAPS else (BOORE_ATKINSON,):
+            whole = raw(map_byte, WHOLE[model])
+            yield whole if read(whole)[0] == 'E' else whole + b'\x00'
+        if map_byte not in MAPS and map_byte % 32 in (0x00, 0x03, 0x05, 0x07, 0x1e, 0x1f):
             yield raw(map_byte, WHOLE[BOORE_ATKINSON])[:-1] or bytes([map_byte])
 
 
 def cuts():
     """Yield streams that are cut at every byte of a record, first in the stream and after accepted ones."""
-    for model, maps in ((BOORE_ATKINSON, GOOD_MAPS), (IDRISS, (0x17, 0x3f))):
+    # The last map of each model has not the distance that the model reads: 7 comes before 9 for it.
+    for model, maps in ((BOORE_ATKINSON, (*SOME_MAPS[BOORE_ATKINSON], 0x3f)), (IDRISS, (0x17, 0x3f, 0x7f, 0x7b))):
         for map_byte in maps:
             whole = raw(map_byte, WHOLE[model])
             for length in range(1, len(whole) + 1):
@@ -366,24 +424,26 @@ def cuts():
                 yield Stream('cut at every byte', sized(9, length) + sized(6, length) + whole[:length])
 
 
+# A record for each refusal that reading has, typed in by hand, with its number; 9 is looked for in two places.
 REFUSED = {
-    1: bytes.fromhex('3703bc02e803024b00'), 2: bytes.fromhex('37011703e803024b00'),
-    3: bytes.fromhex('3701bc025d44024b00'), 4: bytes.fromhex('0f02bc02e8030707'),
-    5: bytes.fromhex('0701bc02e803'), 6: bytes.fromhex('3701bc02e803020900'),
-    7: bytes.fromhex('3701bc02e803024b'), 8: bytes.fromhex('7701bc02e803024b00'),
-    9: bytes.fromhex('3601bc02e803024b00'), 11: bytes.fromhex('1702bc02e80309')}
+    '1': (1, bytes.fromhex('3703bc02e803024b00')), '2': (2, bytes.fromhex('37011703e803024b00')),
+    '3': (3, bytes.fromhex('3701bc025d44024b00')), '4': (4, bytes.fromhex('4b02bc020707e803')),
+    '5': (5, bytes.fromhex('0701bc02e803')), '6': (6, bytes.fromhex('3701bc02e803020900')),
+    '7': (7, bytes.fromhex('3701bc02e803024b')), '8': (8, bytes.fromhex('b701bc02e803024b00')),
+    '9': (9, bytes.fromhex('3601bc02e803024b00')), '9_distance': (9, bytes.fromhex('3702bc02e803024b00')),
+    '11': (11, bytes.fromhex('5302bc0209e803')), '13': (13, bytes.fromhex('7701bc02e803024b00e903'))}
 
 
 def refusals():
     """Yield each refusal alone, after one record, after many, and before records that are not answered."""
-    for number, last in REFUSED.items():
+    for number, last in REFUSED.values():
         after = b'' if number == 7 else filled(100)
         kind = f'refusal {number}'
         yield Stream(kind, last, ('enclosures', f'1 R {number}', 'end 1'))
         yield Stream(kind, last + after, ('enclosures', f'1 R {number}', 'end 1'))
         yield Stream(kind, sized(6) + last + after, ('enclosures', '1 E * * * *', f'2 R {number}', 'end 2'))
         yield Stream(kind, filled(3000) + last + after)
-        yield Stream(kind, sized(11, 3) * 300 + last + last)
+        yield Stream(kind, sized(13, 3) * 300 + last + last)
 
 
 # ---------------------------------------------------------------------------
@@ -394,22 +454,22 @@ def around_the_end():
     """Yield streams that end at, next to and beyond 4,096 bytes."""
     for size in (TAKEN - 1, TAKEN):
         yield Stream(f'{size} bytes', filled(size))
-    for after in (b'\x00', b'\x07', b'\xff', sized(6), sized(11, 5), REFUSED[6], filled(TAKEN), filled(96000),
+    for after in (b'\x00', b'\x07', b'\xff', sized(6), sized(13, 5), REFUSED['6'][1], filled(TAKEN), filled(96000),
                   bytes(10 ** 6), b'\xff' * 70000):
         yield Stream('4,096 bytes and more', filled(TAKEN) + after)
-    for before in range(1, 12):
-        for length in (6, 11):
+    for before in range(1, LONGEST + 1):
+        for length in (6, LONGEST_WITH_ONE, LONGEST):
             # Whole for the caller, but cut at byte 4,096 where it has more bytes than are left.
             data = filled(TAKEN - before) + sized(length, before)
             yield Stream('a record around byte 4,096', data)
             yield Stream('a record around byte 4,096', data + filled(500))
-    for last in (0x00, 0x07, 0x3f, 0x38, 0x40, 0x80, 0xc7, 0xff):
+    for last in (0x00, 0x07, 0x3f, 0x38, 0x40, 0x43, 0x7f, 0x80, 0xc7, 0xff):
         yield Stream('the last byte is a map byte', filled(TAKEN - 1) + bytes([last]))
         yield Stream('the last byte is a map byte', filled(TAKEN - 1) + bytes([last]) + filled(50))
-    for length in range(6, 12):
+    for length in range(6, LONGEST + 1):
         yield Stream('records of one length', sized(length, 1) * 700)
         yield Stream('records of one length', sized(length, 2) * (TAKEN // length))
-    for number, last in REFUSED.items():
+    for number, last in REFUSED.values():
         yield Stream(f'refusal {number} at the end', filled(TAKEN - len(last)) + last)
         yield Stream(f'refusal {number} and more', filled(2000) + last + filled(4000))
 
@@ -420,7 +480,7 @@ def in_pieces():
     yield Stream('a byte at a time', few, pieces=(1,) * len(few))
     yield Stream('a byte at a time', few[:-1], pieces=(1,) * len(few))
     for data in (filled(TAKEN), filled(TAKEN) + filled(700), filled(TAKEN - 3) + sized(9) + filled(50),
-                 filled(1000) + REFUSED[8] + filled(3500)):
+                 filled(1000) + REFUSED['8'][1] + filled(3500)):
         for sizes in ((1,), (4095,), (4096,), (1000, 1000, 1000), (2047, 1, 2047, 1), (11,) * 40):
             yield Stream('in pieces', data, pieces=sizes)
     yield Stream('nothing, late', b'', ('enclosures', 'end 0'), pieces=(0, 0))
@@ -431,9 +491,10 @@ def in_pieces():
 # ---------------------------------------------------------------------------
 
 def uniform(rng):
-    """Draw each field evenly from all its numbers; mostly with a model that is there."""
+    """Draw each field evenly from all its numbers; mostly with a model that is there, at times without a distance."""
     model = rng.choice((IDRISS, BOORE_ATKINSON, rng.randrange(256)))
-    return Scenario(model, *(rng.randrange(256 ** size) for _, size in FIELDS[1:]))
+    scenario = Scenario(model, *(rng.randrange(256 ** size) for _, size in FIELDS[1:]))
+    return scenario._replace(**{name: None for name in NO_DISTANCES if rng.randrange(4) == 0})
 
 
 def one_uniform(rng):
@@ -445,11 +506,23 @@ def one_uniform(rng):
 
 
 def near_limits(rng):
-    """Draw a scenario with a field at a limit of either model or one step beside it."""
+    """Draw a scenario with a field, of the distances either, at a limit of either model or one step beside it."""
     scenario = within(rng, rng.choice((IDRISS, BOORE_ATKINSON)))
     field = rng.choice([*WIDE_FIELDS])
     limits = WIDE_FIELDS[field][rng.choice((IDRISS, BOORE_ATKINSON))]
-    return scenario._replace(**{field: max(rng.choice(limits) + rng.choice((-1, 0, 1)), 0)})
+    name = rng.choice([*NO_DISTANCES]) if field == 'distance' else field
+    return scenario._replace(**{name: max(rng.choice(limits) + rng.choice((-1, 0, 1)), 0)})
+
+
+def any_distances(rng):
+    """Draw a scenario whose distances are equal, one apart or unlike, or absent; or that is of another model."""
+    scenario = within(rng, rng.choice((IDRISS, BOORE_ATKINSON)))
+    own = own_distance(scenario)
+    other = rng.choice((None, own, max(own + rng.choice((-1, 1)), 0), rng.randint(0, FIELD_END)))
+    scenario = scenario._replace(**{OTHER_DISTANCE[scenario.model]: other})
+    if rng.randrange(4) == 0:
+        scenario = scenario._replace(**{OWN_DISTANCE[scenario.model]: None})
+    return scenario._replace(model=rng.choice((IDRISS, BOORE_ATKINSON, scenario.model, rng.randrange(256))))
 
 
 def damaged(rng):
@@ -469,7 +542,7 @@ def damaged(rng):
 
 def ending(rng):
     """Draw what may come after a run of accepted records."""
-    way = rng.randrange(10)
+    way = rng.randrange(11)
     if way < 2:
         return record(one_uniform(rng))
     if way == 2:
@@ -480,14 +553,18 @@ def ending(rng):
         return damaged(rng)
     if way == 5:
         # A written field may hold its absent number, and any field may be left out.
-        return raw(rng.choice(GOOD_MAPS), near_limits(rng))
+        scenario = near_limits(rng)
+        absent = {name: rng.randint(0, FIELD_END) for name in NO_DISTANCES if getattr(scenario, name) is None}
+        return raw(rng.choice(MAPS), scenario._replace(**absent))
     if way == 6:
         return rng.randbytes(rng.randint(1, 16))
     if way == 7:
         whole = record(within(rng, BOORE_ATKINSON))
         return whole[:rng.randrange(len(whole))]
     if way == 8:
-        return bytes([rng.choice(GOOD_MAPS)]) + rng.randbytes(10)
+        return bytes([rng.choice(MAPS)]) + rng.randbytes(12)
+    if way == 9:
+        return record(any_distances(rng))
     return b''
 
 
@@ -515,13 +592,14 @@ def fixed(rng):
     yield from packed('absent numbers', defaults())
     yield from written('next to the absent numbers', not_defaults())
     yield from written('limits', at_limits(rng))
+    yield from written('two distances', of_two_distances())
     yield from written('beyond the hinge magnitudes', beyond_hinges())
     yield from written('every row, and between', crossed(rng))
     yield from written('every row, and between, at the joints', joined(rng))
     yield from written('between the rows', between_the_rows(rng))
     yield from written("Idriss's sigma", sigmas())
     yield from written('next to a threshold of p', thresholds(rng))
-    yield from written('next to zero', (Scenario(*fields) for fields in NEXT_TO_ZERO))
+    yield from written('next to zero', (with_own_distance(*fields) for fields in NEXT_TO_ZERO))
     yield from written('byte order', byte_order())
     yield from formula_streams(rng)
 
@@ -530,58 +608,72 @@ def fixed(rng):
 # Stored streams
 # ---------------------------------------------------------------------------
 
+# Every scenario has the distance that its model reads, and no other, but for those of both_distances.
+
 def both_models():
-    """Return records of both models with every kind of row; no number in them is drawn."""
+    """Return scenarios of both models with every kind of row; no number in them is drawn."""
     scenarios = []
     for turn, period in enumerate((0, *PERIODS[IDRISS])):
-        scenarios += [Scenario(IDRISS, magnitude, 450 * turn, 4500 + 650 * turn, turn % 5, period)
+        scenarios += [with_own_distance(IDRISS, magnitude, 450 * turn, 4500 + 650 * turn, turn % 5, period)
                       for magnitude in (600, 675, 676, 760)]
     for turn, period in enumerate((0, *PERIODS[BOORE_ATKINSON])):
         code = MECHANISM[BOORE_ATKINSON][turn % 5]
         # Above, at and below the hinge magnitude, at distances in each branch of p, in each branch of the slope.
-        scenarios += [Scenario(BOORE_ATKINSON, magnitude, distance + turn, velocity, code, period)
+        scenarios += [with_own_distance(BOORE_ATKINSON, magnitude, distance + turn, velocity, code, period)
                       for magnitude, distance, velocity in (
                           (760, 500, 1800), (675, 4500, 2500), (674, 10000, 5000), (550, 15000, 10000),
                           (676, 0, 3000), (650, 2500, 7600), (720, 6500, 2000))]
-    scenarios += [Scenario(BOORE_ATKINSON, 754, 6065, 2500, code, 0) for code in MECHANISM[BOORE_ATKINSON]]
+    scenarios += [with_own_distance(BOORE_ATKINSON, 754, 6065, 2500, code, 0) for code in MECHANISM[BOORE_ATKINSON]]
     # Every branch of the slope with every branch of p, on both sides of the hinge magnitude.
-    scenarios += [Scenario(BOORE_ATKINSON, magnitude, distance, velocity, 9, 200)
+    scenarios += [with_own_distance(BOORE_ATKINSON, magnitude, distance, velocity, 9, 200)
                   for magnitude in (674, 675, 676) for distance in (500, 4500, 15000)
                   for velocity in (1800, 2400, 3000, 5000, 7600, 10000)]
-    return b''.join(map(record, scenarios))
+    return scenarios
 
 
 def between_records():
-    """Return records of both models with periods between the rows; no number in them is drawn."""
+    """Return scenarios of both models with periods between the rows; no number in them is drawn."""
     scenarios = []
     for turn, period in enumerate(untabled(IDRISS)):
         magnitude = (600, 675, 676, 760)[turn % 4]
-        scenarios.append(Scenario(IDRISS, magnitude, 170 * turn, 4500 + 190 * turn, turn % 5, period))
+        scenarios.append(with_own_distance(IDRISS, magnitude, 170 * turn, 4500 + 190 * turn, turn % 5, period))
     for turn, period in enumerate(untabled(BOORE_ATKINSON)):
         # Each branch of p, and of the slope.
         magnitude, distance, velocity = ((760, 500, 1800), (675, 4500, 2500), (674, 10000, 5000), (550, 15000, 10000),
                                          (676, 0, 3000), (650, 2500, 7600), (720, 6500, 2000))[turn % 7]
         code = MECHANISM[BOORE_ATKINSON][turn % 5]
-        scenarios.append(Scenario(BOORE_ATKINSON, magnitude, distance + turn, velocity, code, period))
-    return b''.join(map(record, scenarios))
+        scenarios.append(with_own_distance(BOORE_ATKINSON, magnitude, distance + turn, velocity, code, period))
+    return scenarios
 
 
 def sample():
-    """Return the records of one earthquake, M 7.00 and reverse at 10 km on 760 m/s, at some periods by both models."""
-    return b''.join(record(Scenario(model, 700, 1000, 7600, 2, period))
-                    for model in (IDRISS, BOORE_ATKINSON) for period in (0, 50, 75, 100, 200, 1000))
+    """Return scenarios of one earthquake, M 7.00 and reverse at 10 km on 760 m/s, at some periods by both models."""
+    return [with_own_distance(model, 700, 1000, 7600, 2, period)
+            for model in (IDRISS, BOORE_ATKINSON) for period in (0, 50, 75, 100, 200, 1000)]
+
+
+def both_distances():
+    """Return scenarios of the other stored streams with both distances: each has the ends that it has there."""
+    scenarios = []
+    for turn, scenario in enumerate([*sample(), *both_models()[::3], *between_records()[::3]]):
+        own = own_distance(scenario)
+        # Equal distances, the least or greatest other one, and one apart where that is no reason for 13.
+        others = {IDRISS: (own, 0, max(own - 1, 0)), BOORE_ATKINSON: (own, FIELD_END, own + 1)}[scenario.model]
+        scenarios.append(scenario._replace(**{OTHER_DISTANCE[scenario.model]: others[turn % 3]}))
+    return scenarios
 
 
 def stored():
     """Return the bytes of the stored streams by name."""
-    few = b''.join(sized(length, length) for length in range(6, 12)) + record(WHOLE[IDRISS])
+    few = b''.join(sized(length, length) for length in range(6, 12)) + record(without_other_distance(WHOLE[IDRISS]))
+    one = LONGEST_WITH_ONE
     return {
         'document_example': bytes.fromhex('37 01 BC 02 E8 03 02 46 00'),
         'empty': b'',
-        'sample': sample(),
-        'both_models': both_models(),
-        'between_rows': between_records(),
-        **{f'refusal_{number}': few + last for number, last in REFUSED.items()},
-        'longer_than_4096': filled(TAKEN) + filled(1000),
-        'cut_at_4096': filled(TAKEN - 5) + sized(11, 1) + filled(100),
+        **{name: b''.join(map(record, scenarios)) for name, scenarios in (
+            ('sample', sample()), ('both_models', both_models()), ('between_rows', between_records()),
+            ('both_distances', both_distances()))},
+        **{f'refusal_{name}': few + last for name, (_, last) in REFUSED.items()},
+        'longer_than_4096': filled(TAKEN, one) + filled(1000, one),
+        'cut_at_4096': filled(TAKEN - 5, one) + sized(11, 1) + filled(100, one),
     }

@@ -1,4 +1,4 @@
-"""Check the program that reads records and prints enclosures, against document 01 and the papers.
+"""Check the program that reads records and prints enclosures, against documents 01 and 02 and the papers.
 
 Run as: python3 tests/test_enclosures.py PROGRAM [COUNT] [SEED]
     or: python3 tests/test_enclosures.py --store PROGRAM
@@ -29,7 +29,7 @@ import models
 import streams
 from exact import Pair, meets
 from formula_pairs import EXACT, OUTWARD
-from records import BOORE_ATKINSON, IDRISS, PERIOD, PERIODS, between_rows, read
+from records import BOORE_ATKINSON, IDRISS, PERIOD, PERIODS, between_rows, read, without_other_distance
 from streams import TAKEN, Stream
 
 COUNT = 20000
@@ -65,7 +65,7 @@ STREAMS_REMEMBERED = 2000
 
 
 # ---------------------------------------------------------------------------
-# What document 01 prints, typed in by hand; * stands for an end
+# What documents 01 and 02 print, typed in by hand; * stands for an end
 # ---------------------------------------------------------------------------
 
 E1 = ('enclosures', '1 E * * * *', 'end 1')
@@ -90,58 +90,97 @@ PAPER = (
     ('magnitude 450 in Idriss', '3701c201e803024b00', E1),
     ('magnitude 790 in Idriss', '37011603e803024b00', E1),
     ('magnitude 791 in Idriss', '37011703e803024b00', refused(2)),
-    ('magnitude 499 in Boore-Atkinson', '3702f301e803024b00', refused(2)),
-    ('magnitude 500 in Boore-Atkinson', '3702f401e803024b00', E1),
-    ('magnitude 800 in Boore-Atkinson', '37022003e803024b00', E1),
-    ('magnitude 801 in Boore-Atkinson', '37022103e803024b00', refused(2)),
+    ('magnitude 499 in Boore-Atkinson', '7302f301024b00e803', refused(2)),
+    ('magnitude 500 in Boore-Atkinson', '7302f401024b00e803', E1),
+    ('magnitude 800 in Boore-Atkinson', '73022003024b00e803', E1),
+    ('magnitude 801 in Boore-Atkinson', '73022103024b00e803', refused(2)),
     ('distance 17500 in Idriss', '3701bc025c44024b00', E1),
     ('distance 17501 in Idriss', '3701bc025d44024b00', refused(3)),
-    ('distance 19999 in Boore-Atkinson', '3702bc021f4e024b00', E1),
-    ('distance 20000 in Boore-Atkinson', '3702bc02204e024b00', refused(3)),
+    ('distance 19999 in Boore-Atkinson', '7302bc02024b001f4e', E1),
+    ('distance 20000 in Boore-Atkinson', '7302bc02024b00204e', refused(3)),
     ('period 40 in Idriss', '3701bc02e803022800', E1),
-    ('period 40 in Boore-Atkinson', '3702bc02e803022800', E1),
+    ('period 40 in Boore-Atkinson', '7302bc02022800e803', E1),
     ('period 70 in Idriss', '3701bc02e803024600', E1),
-    ('period 70 in Boore-Atkinson', '3702bc02e803024600', E1),
+    ('period 70 in Boore-Atkinson', '7302bc02024600e803', E1),
     # "Refusal 6 is left with 1 to 9 and above 10000".
     ('period 1 in Idriss', '3701bc02e803020100', refused(6)),
-    ('period 1 in Boore-Atkinson', '3702bc02e803020100', refused(6)),
+    ('period 1 in Boore-Atkinson', '7302bc02020100e803', refused(6)),
     ('period 9 in Idriss', '3701bc02e803020900', refused(6)),
-    ('period 9 in Boore-Atkinson', '3702bc02e803020900', refused(6)),
+    ('period 9 in Boore-Atkinson', '7302bc02020900e803', refused(6)),
     ('period 10 in Idriss', '3701bc02e803020a00', E1),
-    ('period 10 in Boore-Atkinson', '3702bc02e803020a00', E1),
+    ('period 10 in Boore-Atkinson', '7302bc02020a00e803', E1),
     ('period 11 in Idriss', '3701bc02e803020b00', E1),
-    ('period 11 in Boore-Atkinson', '3702bc02e803020b00', E1),
+    ('period 11 in Boore-Atkinson', '7302bc02020b00e803', E1),
     ('period 9999 in Idriss', '3701bc02e803020f27', E1),
-    ('period 9999 in Boore-Atkinson', '3702bc02e803020f27', E1),
+    ('period 9999 in Boore-Atkinson', '7302bc02020f27e803', E1),
     ('period 10000 in Idriss', '3701bc02e803021027', E1),
-    ('period 10000 in Boore-Atkinson', '3702bc02e803021027', E1),
+    ('period 10000 in Boore-Atkinson', '7302bc02021027e803', E1),
     ('period 10001 in Idriss', '3701bc02e803021127', refused(6)),
-    ('period 10001 in Boore-Atkinson', '3702bc02e803021127', refused(6)),
+    ('period 10001 in Boore-Atkinson', '7302bc02021127e803', refused(6)),
     ('period 65535 in Idriss', '3701bc02e80302ffff', refused(6)),
-    ('period 65535 in Boore-Atkinson', '3702bc02e80302ffff', refused(6)),
+    ('period 65535 in Boore-Atkinson', '7302bc0202ffffe803', refused(6)),
     ('code 5 in Idriss, and period 9', '3701bc02e803050900', refused(5)),
     ('period 0 in Idriss', '1701bc02e80302', E1),
-    ('period 0 in Boore-Atkinson', '1702bc02e80302', E1),
+    ('period 0 in Boore-Atkinson', '5302bc0202e803', E1),
     ('code 9 in Idriss, not written', '2701bc02e8034b00', refused(5)),
     ('code 9 in Idriss, written', '3701bc02e803094b00', refused(11)),
-    ('code 9 in Boore-Atkinson', '0702bc02e803', E1),
-    ('velocity 7600 written', '0f02bc02e803b01d', refused(11)),
-    ('mechanism 9 written', '1702bc02e80309', refused(11)),
-    ('period 0 written', '2702bc02e8030000', refused(11)),
+    ('code 9 in Boore-Atkinson', '4302bc02e803', E1),
+    ('velocity 7600 written', '4b02bc02b01de803', refused(11)),
+    ('mechanism 9 written', '5302bc0209e803', refused(11)),
+    ('period 0 written', '6302bc020000e803', refused(11)),
     ('model 0', '3700bc02e803024b00', refused(1)),
     ('model 3', '3703bc02e803024b00', refused(1)),
     ('a lone map byte 00', '00', refused(9)),
-    ('bit 6 stands', '7701bc02e803024b00', refused(8)),
+    # W-202: "Bit 6 becomes the distance to the surface projection, 2 bytes, after the period."
+    ('bit 6 stands', '7701bc02e803024b00e703', E1),
+    ('bit 6 stands, and there are no bytes for it', '7701bc02e803024b00', refused(7)),
+    ('bit 6 stands, and there is one byte for it', '7701bc02e803024b00e7', refused(7)),
+    ('bit 6 stands, the others are clear', '40', refused(9)),
     ('bit 7 stands', 'b701bc02e803024b00', refused(8)),
-    ('bit 6 stands, the others are clear', '40', refused(8)),
+    ('bits 6 and 7 stand', 'f701bc02e803024b00e703', refused(8)),
+    ('bit 7 stands, the others are clear', '80', refused(8)),
+    ('every bit stands', 'ff', refused(8)),
+    # "Idriss needs bit 2 and Boore-Atkinson bit 6, else 9; the other may stand."
+    ('Idriss without bit 2', '7301bc02024b00e803', refused(9)),
+    ('Idriss with no distance', '3301bc02024b00', refused(9)),
+    ('Boore-Atkinson with bit 2 alone, as before W-202', '3702bc02e803024b00', refused(9)),
+    ('Boore-Atkinson with no distance', '3302bc02024b00', refused(9)),
+    ('Boore-Atkinson with both', '7702bc021404024b00e803', E1),
+    ('distance 0 in Idriss', '1701bc02000002', E1),
+    ('distance 0 in Boore-Atkinson', '4302bc020000', E1),
+    # "9 for the distance comes after 11."
+    ('no distance and mechanism 9 written, Idriss', '1301bc0209', refused(11)),
+    ('no distance and velocity 7600 written, Boore-Atkinson', '0f02bc02e803b01d', refused(11)),
+    ('no distance and the last byte is wanting', '3301bc02024b', refused(7)),
+    # "A model that is neither 1 nor 2 needs no distance."
+    ('model 3 with no distance', '0303bc02', refused(1)),
+    # "Both stand and the projection distance exceeds the rupture distance [...] just before 1".
+    ('equal distances in Idriss', '7701bc02e803024b00e803', E1),
+    ('equal distances in Boore-Atkinson', '7702bc02e803024b00e803', E1),
+    ('one more to the projection in Idriss', '7701bc02e803024b00e903', refused(13)),
+    ('one more to the projection in Boore-Atkinson', '7702bc02e703024b00e803', refused(13)),
+    ('one more to the projection in model 3', '4703bc02e803e903', refused(13)),
+    ('one more to the projection, and mechanism 9 written', '5701bc02e80309e903', refused(11)),
+    ('17502 to the projection, 17501 to the rupture in Idriss', '5701bc025d44025e44', refused(13)),
+    # "The limit of refusal 3 is applied to the distance that the model reads."
+    ('65535 to the rupture, 19999 to the projection in Boore-Atkinson', '4702bc02ffff1f4e', E1),
+    ('65535 to the rupture, 20000 to the projection in Boore-Atkinson', '4702bc02ffff204e', refused(3)),
+    ('17501 to the rupture, 0 to the projection in Idriss', '5701bc025d44020000', refused(3)),
     ('a lone map byte', '07', refused(7)),
     ('the last byte is wanting', '3701bc02e803024b', refused(7)),
-    ('two records and a map byte', '0702bc02e8030702bc02e80307',
+    ('two records and a map byte', '4302bc02e8034302bc02e80307',
      ('enclosures', '1 E * * * *', '2 E * * * *', '3 R 7', 'end 3')),
 )
 
-# "Velocity 12000 and 20000 answer alike in Idriss": two records whose answers have the same ends.
-ALIKE = ('3f01bc02e803e02e024b00', '3f01bc02e803204e024b00')
+# Records whose answers have the same ends.
+ALIKE = (
+    # "Velocity 12000 and 20000 answer alike in Idriss".
+    ('3f01bc02e803e02e024b00', '3f01bc02e803204e024b00'),
+    # Each model reads its own distance: Idriss at 10 km, without a distance to the projection, with 10 km, 9.99 and 0;
+    ('3701bc02e803024b00', '7701bc02e803024b00e803', '7701bc02e803024b00e703', '7701bc02e803024b000000'),
+    # Boore-Atkinson at 10 km, without a distance to the rupture, with 10 km, 10.01 and 655.35.
+    ('7302bc02024b00e803', '7702bc02e803024b00e803', '7702bc02e903024b00e803', '7702bc02ffff024b00e803'),
+)
 
 # The printed equations worked out with the printed coefficients on a decimal calculator, cut off after 15 decimals:
 # median and sigma.
@@ -153,11 +192,11 @@ WORKED_OUT = (
     # Idriss, M 6.76, 175 km, 450 m/s, code 4, 10 s
     ('3f01a4025c449411041027', '-6.792782961471475', '0.812851430103383'),
     # Boore-Atkinson, M 7.00, 10 km, 300 m/s, code 0, 0.2 s; p is above ln 0.09
-    ('3f02bc02e803b80b00c800', '-0.475458317203253', '0.596'),
+    ('7b02bc02b80b00c800e803', '-0.475458317203253', '0.596'),
     # Boore-Atkinson, M 6.00, 70 km, 180 m/s, code 9, period 0; p is below ln 0.03
-    ('0f025802581b0807', '-2.803534464746532', '0.566'),
+    ('4b0258020807581b', '-2.803534464746532', '0.566'),
     # Boore-Atkinson, M 6.50, 40 km, 250 m/s, code 2, 1 s; p is between
-    ('3f028a02a00fc40902e803', '-2.147578578335000', '0.647'),
+    ('7b028a02c40902e803a00f', '-2.147578578335000', '0.647'),
     # Between the rows: Idriss, M 6.75, 0 km, 1200 m/s, code 0, 0.011 s
     ('3f01a3020000e02e000b00', '-0.731212075806976', '0.670149370425610'),
     # Idriss, M 6.75, 25 km, 450 m/s, code 3, 8.75 s
@@ -167,15 +206,15 @@ WORKED_OUT = (
     # Idriss, M 6.76, 175 km, 2000 m/s, code 4, 9.999 s
     ('3f01a4025c44204e040f27', '-7.367359939781978', '0.812851430103383'),
     # Boore-Atkinson, M 7.00, 10 km, 300 m/s, code 0, 0.225 s; p is above ln 0.09
-    ('3f02bc02e803b80b00e100', '-0.463683104226004', '0.593888658937931'),
+    ('7b02bc02b80b00e100e803', '-0.463683104226004', '0.593888658937931'),
     # Boore-Atkinson, M 6.00, 70 km, 180 m/s, code 9, 0.04 s; p is below ln 0.03
-    ('2f025802581b08072800', '-2.720994686847145', '0.584194878740889'),
+    ('6b02580208072800581b', '-2.720994686847145', '0.584194878740889'),
     # Boore-Atkinson, M 6.50, 40 km, 250 m/s, code 2, 1.25 s; p is between
-    ('3f028a02a00fc40902e204', '-2.439071997080794', '0.664610870822822'),
+    ('7b028a02c40902e204a00f', '-2.439071997080794', '0.664610870822822'),
     # Boore-Atkinson, M 7.54, 60.65 km, 250 m/s, code 0, 0.049 s; p is 11 units from ln 0.09
-    ('3f02f202b117c409003100', '-1.885125437285322', '0.588485861352859'),
+    ('7b02f202c409003100b117', '-1.885125437285322', '0.588485861352859'),
     # Boore-Atkinson, M 5.50, 150 km, 1000 m/s, code 3, 6.25 s
-    ('3f022602983a1027036a18', '-8.900125220846039', '0.767664607668167'),
+    ('7b0226021027036a18983a', '-8.900125220846039', '0.767664607668167'),
 )
 
 # True values in units, rounded to four decimals; a number without decimals is exact.  M 7.00, 10 km, 760 m/s, code 2.
@@ -183,9 +222,9 @@ TRUE_UNITS = (
     # Idriss, 0.07 s
     ('3701bc02e803024600', '-747978464.4812', '666925898.7074'),
     # Boore-Atkinson, 0.04 s, 0.07 s and 0.011 s
-    ('3702bc02e803022800', '-1313794197.8390', '583321220.3301'),
-    ('3702bc02e803024600', '-1069227804.0903', None),
-    ('3702bc02e803020b00', None, '566000000'),
+    ('7302bc02022800e803', '-1313794197.8390', '583321220.3301'),
+    ('7302bc02024600e803', '-1069227804.0903', None),
+    ('7302bc02020b00e803', None, '566000000'),
 )
 
 
@@ -206,11 +245,11 @@ def outcomes(data):
 
 def true_values(scenario):
     """Return pairs around the true median and the true sigma of an accepted scenario."""
-    model, magnitude, distance, velocity, mechanism, period = scenario
+    model, magnitude, rupture, velocity, mechanism, period, projection = scenario
     if model == IDRISS:
-        median = models.idriss_median_at(models.table_of(magnitude), period, magnitude, distance, velocity, mechanism)
+        median = models.idriss_median_at(models.table_of(magnitude), period, magnitude, rupture, velocity, mechanism)
         return median, models.idriss_sigma(period, magnitude)
-    median = models.boore_atkinson_median_at(period, magnitude, distance, velocity, mechanism)
+    median = models.boore_atkinson_median_at(period, magnitude, projection, velocity, mechanism)
     return median, models.boore_atkinson_sigma_at(period, mechanism)
 
 
@@ -432,7 +471,7 @@ def check_true_units(tally, program):
 def check_typed(tally, program):
     """Check the streams that are typed in by hand, and the answers that are worked out or have to be alike."""
     for words, digits, lines in PAPER:
-        ask(tally, program, Stream(f'document 01, {words}', bytes.fromhex(digits), lines))
+        ask(tally, program, Stream(f'typed in by hand, {words}', bytes.fromhex(digits), lines))
     check_true_units(tally, program)
     for digits, *values in WORKED_OUT:
         stream = Stream('worked out', bytes.fromhex(digits), E1)
@@ -442,9 +481,10 @@ def check_typed(tally, program):
             low, high = ends[2 * at:2 * at + 2] if ends else (units, units)
             if not low - CUT_OFF <= units <= high + CUT_OFF:
                 tally.fault(stream, f'the {PARTS[at]} is {value}, which the ends {ends} do not enclose')
-    alike = [first_ends(ask(tally, program, Stream('answer alike', bytes.fromhex(digits), E1))) for digits in ALIKE]
-    if alike[0] != alike[1]:
-        tally.fault(Stream('answer alike', bytes.fromhex(ALIKE[0])), f'the ends are {alike[0]} and {alike[1]}')
+    for records in ALIKE:
+        alike = [first_ends(ask(tally, program, Stream('answer alike', bytes.fromhex(one), E1))) for one in records]
+        if len(set(alike)) != 1:
+            tally.fault(Stream('answer alike', bytes.fromhex(records[0])), f'the ends are {alike}')
 
 
 # ---------------------------------------------------------------------------
@@ -478,10 +518,34 @@ def check_stored_one(tally, program, name, data):
     return None
 
 
+def stored_ends(name, data):
+    """Yield each accepted scenario of a stored stream with its stored ends."""
+    with open(path_of(name, 'stdout'), 'rb') as file:
+        lines = file.read().split(b'\n')
+    for (letter, answer), line in zip(outcomes(data), lines[1:]):
+        if letter == 'E':
+            yield answer, read_ends(line)
+
+
+def check_stored_alike(tally):
+    """Check that the stored ends do not depend on the distance that the model does not read."""
+    stored = [pair for name, data in streams.stored().items() for pair in stored_ends(name, data)]
+    alone = {scenario: ends for scenario, ends in stored if scenario == without_other_distance(scenario)}
+    both = [(scenario, ends) for scenario, ends in stored if scenario not in alone]
+    if {scenario.model for scenario, _ in both} != {IDRISS, BOORE_ATKINSON}:
+        tally.faults.append('no stored records of a model with both distances')
+    for scenario, ends in both:
+        # Each of them stands in another stream without the other distance.
+        if ends != alone.get(without_other_distance(scenario)):
+            tally.faults.append(f'the stored ends {ends} of {tuple(scenario)} are not those without the other distance')
+
+
 def check_stored(tally, program):
     """Check all stored streams."""
     for name, data in streams.stored().items():
         check_stored_one(tally, program, name, data)
+    if not tally.faults:
+        check_stored_alike(tally)
 
 
 def store(program):
@@ -540,7 +604,7 @@ def wanted_periods(every):
 
 def check_seen(tally, every=False):
     """Check that all kinds of outcome have been seen, and answers at all rows and between any two neighbours."""
-    wanted = {'E', *(('R', number) for number in (1, 2, 3, 4, 5, 6, 7, 8, 9, 11))}
+    wanted = {'E', *(('R', number) for number in (1, 2, 3, 4, 5, 6, 7, 8, 9, 11, 13))}
     if set(tally.outcomes) != wanted:
         tally.faults.append(f'outcomes missing or too many: {set(tally.outcomes) ^ wanted}')
     missing = set(wanted_periods(every)) - tally.periods

@@ -9,9 +9,18 @@ An ASK answers the questions of test_records.py (other than place) and of test_a
     null                    -> the numbers of reading, answering from a record in both ways, and writing, with no bytes;
                                then once more with no bytes of another kind
 
-A SPECTRUM prints the table of one earthquake by both models, and what the answers between the rows rest on.  The three
-of a kind have to print the same.  PYTHON_ASK stands beside the wrapper fusnoch.py.  COUNT is how many byte strings are
-answered from, 10,000 unless given.
+C_ASK answers three questions more, about the numbers that its interface has for a distance that may be absent.  FIELDS
+are MODEL MAGNITUDE RUPTURE_FLAG RUPTURE VELOCITY MECHANISM PERIOD PROJECTION_FLAG PROJECTION.  A flag of 0 says that
+the distance is absent, and the number beside it is not looked at; with any other flag, 1 to 255, the distance stands.
+Reading gives flags of 0 and 1, and 0 beside an absent distance; with a refusal it gives zeros.
+
+    refusal_flags FIELDS    -> K
+    answer_flags FIELDS     -> E and four ends, or R K
+    read_flags BYTES        -> K FIELDS LENGTH
+
+A SPECTRUM prints the table of one earthquake by both models, each at its own of the two distances, and what the answers
+between the rows rest on.  The three of a kind have to print the same.  PYTHON_ASK stands beside the wrapper fusnoch.py.
+COUNT is how many byte strings are answered from, 10,000 unless given.
 """
 
 import importlib
@@ -19,23 +28,30 @@ import os
 import random
 import re
 import sys
+from ctypes import Structure
 from decimal import Decimal
+from functools import partial
+from itertools import product
 from typing import NamedTuple, Union
 
 import streams
 import test_answers
 import test_records
 from ask import ask, run
-from records import BOORE_ATKINSON, IDRISS, PERIODS, Scenario, record, rows
+from records import (BOORE_ATKINSON, IDRISS, NO_DISTANCES, OWN_DISTANCE, PERIODS, Scenario, read, record, refusal, rows,
+                     without_other_distance)
 from streams import WHOLE, Stream
 from test_enclosures import Tally, check_seen, line_fault
 
 COUNT = 10000
 SEED = 19890118
-# How many questions of the other tests are drawn.
+# How many questions of the other tests are drawn, and how many scenarios and byte strings for C alone.
 DRAWN = 3000
+FLAGGED = 500
 # Rows are asked for at every period up to the first number, and beyond it at the multiples of the second, up to 65535.
 NEAR, FAR = 10010, 257
+# One of so many questions of these kinds is asked.
+THINNED, SOME = ('map bytes', 'order of the refusals', 'order in reading', 'defaults written out', 'periods'), 4
 FAULTS_SHOWN = 20
 HOSTS = ('C', 'Rust', 'Python')
 # Python's own memory is not what is looked at.
@@ -44,7 +60,7 @@ VALGRIND = ('valgrind', '--error-exitcode=99', '--leak-check=full', '-q')
 # A number of bytes that does not fit 16 bits; its low 16 bits are 3, too few for a record.
 MANY = 65536 + 3
 
-# 'What is turned away', the word and the condition; that of the period as W-201 leaves it.
+# 'What is turned away', the word and the condition; as W-201 and W-202 leave them.
 WORDS = (
     'model: neither 1 nor 2',
     "magnitude: beyond the model's limits",
@@ -53,11 +69,12 @@ WORDS = (
     'mechanism: not a code of the model',
     'period: neither 0 nor from 10 to 10000',
     'cut short: no map byte, or fewer bytes than the map calls for',
-    'spare bit: bit 6 or 7 stands',
-    'wanting: bit 0, 1 or 2 is clear',
+    'spare bit: bit 7 stands',
+    'wanting: bit 0 or 1 is clear, or the distance that the model reads is absent',
     'blank: no bit stands',
     'plain default: a field written with its absent number',
     'page full: lent bytes shorter than the record',
+    'distances: the projection distance exceeds the rupture distance',
 )
 
 # What the rows of some periods are called, typed in by hand.
@@ -84,9 +101,8 @@ ROWS_WORDS = (
     (255, 0, 'refusal 1, model: neither 1 nor 2'),
 )
 
-# The earthquake of the table: M 7.00, strike-slip, 760 m/s; each model has its own distance.
-SPECTRUM = {IDRISS: Scenario(IDRISS, 700, 1044, 7600, 0, 0),
-            BOORE_ATKINSON: Scenario(BOORE_ATKINSON, 700, 1000, 7600, 0, 0)}
+# The earthquake of the table: M 7.00, strike-slip, 760 m/s, both distances; only the model differs.
+SPECTRUM = {model: Scenario(model, 700, 1044, 7600, 0, 0, 1000) for model in (IDRISS, BOORE_ATKINSON)}
 # Its periods: 0, those that Idriss has a row for, and 0.07 s, for which no model has one.
 SPECTRUM_PERIODS = sorted((0, *PERIODS[IDRISS], 70))
 COLUMNS = '  median low  median high g, rounded  sigma low sigma high'
@@ -165,12 +181,12 @@ def rows_words(model, period):
     return f'{name}: the row {lower}' if lower == upper else f'{name}: between {lower} and {upper}'
 
 
-def is_for_hosts(line):
-    """Say whether a question of test_records.py is for all hosts: no place, and not the rows of every far period."""
-    name, *words = line.split(' ')
+def is_for_hosts(number, question):
+    """Say whether a question of test_records.py is for all hosts: no place, and not all of those that are very many."""
+    name, *words = question.line.split(' ')
     if name == 'rows':
         return int(words[1]) <= NEAR or int(words[1]) % FAR == 0
-    return name != 'place'
+    return name != 'place' and (question.kind not in THINNED or number % SOME == 0)
 
 
 def about_rows_words():
@@ -194,8 +210,9 @@ def longest():
 
 def byte_strings(rng, count):
     """Return so many byte strings, or the fixed ones if these are more."""
-    fixed = [*shortest(), *longest(), *streams.REFUSED.values(), *streams.orders(), *streams.defaults(),
-             *streams.map_bytes(), *(stream.data for stream in streams.cuts())]
+    fixed = [*shortest(), *longest(), *(data for _, data in streams.REFUSED.values()), *streams.orders(),
+             *streams.defaults(), *streams.map_bytes(), *(stream.data for stream in streams.cuts()),
+             *map(record, streams.of_two_distances())]
     return fixed + [test_answers.draw_bytes(rng) for _ in range(count - len(fixed))]
 
 
@@ -203,15 +220,19 @@ def small_questions():
     """Return questions with few bytes, or none, that are asked under valgrind, too."""
     cut = [test_records.taken(question.line.split(' ')[1]) for question in test_records.prefixes()]
     asked = [*about_records(question.line for question in test_records.prefixes()),
-             *about_records(question.line for question in test_records.writing())]
+             # One of the two patterns of lent bytes.
+             *about_records(question.line for question in [*test_records.writing()][::2])]
     for name in ('answer_record', 'doubles_record'):
         asked += about_bytes(name, cut)
-    asked += about_scenarios([*SPECTRUM.values(), *streams.WRONG.values(),
-                              *(SPECTRUM[model]._replace(period=70) for model in SPECTRUM)])
+    asked += about_scenarios([*SPECTRUM.values(), *(SPECTRUM[model]._replace(period=70) for model in SPECTRUM),
+                              *(WHOLE[model]._replace(**wrong) for model, wrong in streams.WRONG.items()),
+                              *map(streams.crossing, WHOLE.values()), *map(without_other_distance, WHOLE.values()),
+                              *(WHOLE[model]._replace(**{name: None}) for model, name in OWN_DISTANCE.items()),
+                              *(whole._replace(**NO_DISTANCES) for whole in WHOLE.values())])
     for model, period, words in ROWS_WORDS:
         asked += [Question(f'rows_words {model} {period}', words), *about_records([f'rows {model} {period}'])]
     asked += [Question(f'words {number}', words) for number, words in enumerate(WORDS, 1)]
-    asked += [Question(f'words {number}', 'not a refusal') for number in (0, 13, 255)]
+    asked += [Question(f'words {number}', 'not a refusal') for number in (0, 14, 255)]
     return asked + [Question('null', '7 7 7 12 7 7 7 12')]
 
 
@@ -221,10 +242,11 @@ def all_questions(rng, count):
     asked += about_bytes('answer_record', byte_strings(rng, count))
     asked += about_bytes('doubles_record', shortest() + longest())
     asked += about_scenarios(streams.at_limits(rng))
+    asked += about_scenarios(streams.of_two_distances())
     for whole, doubles, _, due in test_answers.questions(rng, DRAWN):
         asked += [Question(line, line_or_scenario(due)) for line in (whole, doubles)]
-    of_records = [question.line for question in test_records.questions(DRAWN, rng.randrange(2 ** 32))]
-    asked += about_records(filter(is_for_hosts, of_records))
+    of_records = enumerate(test_records.questions(DRAWN, rng.randrange(2 ** 32)))
+    asked += about_records(question.line for number, question in of_records if is_for_hosts(number, question))
     asked += about_rows_words()
     asked += about_records(f'read {data.hex() or "-"}' for data in shortest() + longest())
     asked += about_records(test_records.text('write', *scenario, bytes(MANY).hex()) for scenario in WHOLE.values())
@@ -232,11 +254,93 @@ def all_questions(rng, count):
 
 
 # ---------------------------------------------------------------------------
+# Questions for C alone
+# ---------------------------------------------------------------------------
+
+def with_flags(scenario, flag, beside):
+    """Return the nine numbers of a scenario: a flag for each distance that stands, a number beside each absent one."""
+    numbers = []
+    for name, number in scenario._asdict().items():
+        if name not in NO_DISTANCES:
+            numbers.append(number)
+        else:
+            numbers += [0, beside] if number is None else [flag, number]
+    return numbers
+
+
+def due_for_flags(data):
+    """Return the line that is due for bytes that are read with flags."""
+    letter, value, *others = read(data)
+    if letter == 'R':
+        return test_records.text(value, *[0] * 10)
+    return test_records.text(0, *with_flags(value, 1, 0), others[0])
+
+
+def flagged(scenarios, flags):
+    """Yield the questions with flags about each scenario: whatever flag stands, and whatever number beside none."""
+    for scenario in scenarios:
+        for flag, beside in flags:
+            words = test_records.text(*with_flags(scenario, flag, beside))
+            yield Question(f'refusal_flags {words}', str(refusal(scenario)))
+            yield Question(f'answer_flags {words}', line_or_scenario(test_answers.due_for_scenario(scenario)))
+
+
+# Typed in by hand: a number beside a flag of 0 that would be turned away, or would do, were it looked at.
+TYPED_FLAGS = (
+    ('refusal_flags 1 700 1 1000 7600 2 75 0 0', '0'),
+    ('refusal_flags 1 700 1 1000 7600 2 75 0 65535', '0'),
+    ('refusal_flags 1 700 1 1000 7600 2 75 1 1001', '13'),
+    ('refusal_flags 1 700 255 1000 7600 2 75 255 1001', '13'),
+    ('refusal_flags 1 700 128 1000 7600 2 75 2 1000', '0'),
+    ('refusal_flags 1 700 0 1000 7600 2 75 0 0', '9'),
+    ('refusal_flags 1 700 0 1000 7600 2 75 1 1000', '9'),
+    ('refusal_flags 1 700 2 17501 7600 2 75 0 0', '3'),
+    ('refusal_flags 2 700 0 0 7600 2 75 1 1000', '0'),
+    ('refusal_flags 2 700 0 999 7600 2 75 2 1000', '0'),
+    ('refusal_flags 2 700 2 999 7600 2 75 2 1000', '13'),
+    ('refusal_flags 2 700 1 1000 7600 2 75 0 1000', '9'),
+    ('refusal_flags 2 700 0 0 7600 2 75 64 20000', '3'),
+    ('refusal_flags 3 700 0 0 7600 2 75 0 1', '1'),
+    ('refusal_flags 3 700 1 0 7600 2 75 1 1', '13'),
+    ('answer_flags 1 700 0 1000 7600 2 75 0 0', 'R 9'),
+    ('answer_flags 2 700 16 999 7600 2 75 16 1000', 'R 13'),
+    ('answer_flags 3 700 0 0 7600 2 75 0 1', 'R 1'),
+    ('read_flags 3701bc02e803024b00', '0 1 700 1 1000 7600 2 75 0 0 9'),
+    ('read_flags 7701bc02e803024b00e703', '0 1 700 1 1000 7600 2 75 1 999 11'),
+    ('read_flags 4302bc020000', '0 2 700 0 0 7600 9 0 1 0 6'),
+    ('read_flags 4702bc0200000000ff', '0 2 700 1 0 7600 9 0 1 0 8'),
+    ('read_flags 3702bc02e803024b00', '9 0 0 0 0 0 0 0 0 0 0'),
+    ('read_flags 7701bc02e803024b00e903', '13 0 0 0 0 0 0 0 0 0 0'),
+    ('read_flags -', '7 0 0 0 0 0 0 0 0 0 0'),
+)
+
+
+def flag_questions(rng, count):
+    """Return the questions for C alone; every flag from 1 to 255 stands at some scenario."""
+    asked = [Question(line, due) for line, due in TYPED_FLAGS]
+    few = [whole._replace(**absent) for whole in WHOLE.values() for absent in (
+        {}, {'rupture_distance': None}, {'projection_distance': None}, NO_DISTANCES)]
+    few += [*map(streams.crossing, WHOLE.values()), WHOLE[IDRISS]._replace(model=3, **NO_DISTANCES)]
+    asked += flagged(few, product((1, 2, 128, 255), (0, 1, 258, 1000, 65535)))
+    asked += flagged(few[:2], [(flag, 0) for flag in range(1, 256)])
+    asked += flagged(streams.of_two_distances(), [(1, 0), (255, 65535)])
+    for _ in range(count):
+        scenario = test_answers.draw_scenario(rng)
+        asked += flagged([scenario], [(rng.randint(1, 255), rng.randint(0, 65535))])
+    strings = [*shortest(), *(data for _, data in streams.REFUSED.values()), *map(record, streams.of_two_distances()),
+               *(test_answers.draw_bytes(rng) for _ in range(count))]
+    return asked + [Question(f'read_flags {test_records.show(data)}', due_for_flags(data)) for data in strings]
+
+
+# ---------------------------------------------------------------------------
 # The hosts' answers
 # ---------------------------------------------------------------------------
 
 class Answers:
-    """The ends of each scenario, which are checked once and have to be the same ever after."""
+    """The ends of each scenario, which are checked once and have to be the same ever after.
+
+    The distance that the model does not read is no part of what they rest on.
+    """
 
     def __init__(self):
         self.tally = Tally()
@@ -246,9 +350,10 @@ class Answers:
         """Return what is wrong with a line, or None."""
         if isinstance(due, str):
             return None if line == due else f'{due} is due'
-        if due in self.known:
-            return None if line == self.known[due] else f'{self.known[due]} was the answer before'
-        self.known[due] = line
+        alone = without_other_distance(due)
+        if alone in self.known:
+            return None if line == self.known[alone] else f'{self.known[alone]} was the answer before'
+        self.known[alone] = line
         return line_fault(self.tally, Stream('hosts', record(due)), 1, ('E', due), f'1 {line}'.encode('ascii'))
 
     def faults(self, host, asked, lines):
@@ -276,13 +381,20 @@ def check_asks(answers, asks, asked):
     return faults
 
 
+def check_flags(answers, path, asked):
+    """Return the faults of the host in C at the questions for it alone."""
+    lines, faults = ask([path], [question.line for question in asked])
+    return [f'C: {fault}' for fault in faults] + [*answers.faults('C', asked, lines)]
+
+
 def check_memory(answers, asks, asked):
     """Return what valgrind finds."""
     faults = []
     for host in WATCHED:
-        lines, failures = ask([*VALGRIND, asks[host]], [question.line for question in asked])
+        typed = [Question(line, due) for line, due in TYPED_FLAGS] if host == 'C' else []
+        lines, failures = ask([*VALGRIND, asks[host]], [question.line for question in asked + typed])
         faults += [f'{host} under valgrind: {failure}' for failure in failures]
-        faults += answers.faults(f'{host} under valgrind', asked, lines)
+        faults += answers.faults(f'{host} under valgrind', asked + typed, lines)
     return faults
 
 
@@ -358,14 +470,84 @@ def raised(function, *given):
         return type(error).__name__
 
 
+def in_python(fusnoch, scenario):
+    """Return a scenario as Python's wrapper has it: the two distances are given by name, the other fields by place."""
+    fields = scenario._asdict()
+    named = {name: fields.pop(name) for name in NO_DISTANCES}
+    return fusnoch.Scenario(*fields.values(), **named)
+
+
 def unfit_fields(fusnoch):
     """Yield calls with numbers that do not fit a field, or are none; ctypes would cut them to an accepted scenario."""
     for scenario in WHOLE.values():
         for (name, size), number in zip(streams.FIELDS, scenario):
             for wrong in (number + 256 ** size, number - 256 ** size, number + 2 ** 64, -1, 256 ** size):
-                yield 'ValueError', fusnoch.Scenario, *scenario._replace(**{name: wrong})
-            for wrong in (float(number), Decimal(number), str(number), bytes([number % 256]), None, True, False):
-                yield 'TypeError', fusnoch.Scenario, *scenario._replace(**{name: wrong})
+                yield 'ValueError', in_python, fusnoch, scenario._replace(**{name: wrong})
+            # A distance may be None, and is absent then.
+            kinds = (float(number), Decimal(number), str(number), bytes([number % 256]), True, False)
+            for wrong in kinds if name in NO_DISTANCES else (*kinds, None):
+                yield 'TypeError', in_python, fusnoch, scenario._replace(**{name: wrong})
+
+
+def unfit_calls(fusnoch):
+    """Yield calls for a scenario with a distance that is given by place or by another name, or without a field."""
+    made, five = fusnoch.Scenario, (1, 700, 7600, 2, 75)
+    # The second is the order of a record without the projection distance, and of a scenario before W-202.
+    for given in ((*five, 1000), (1, 700, 1000, 7600, 2, 75), (*five, 1000, 999), (*five, None), (*five, None, None),
+                  five[:4], ()):
+        yield 'TypeError', made, *given
+        yield 'TypeError', partial(made, rupture_distance=1000), *given
+    for name in ('distance', 'rupture', 'projection', 'rupture_distances', 'projection_Distance', 'r_rup', 'rjb'):
+        yield 'TypeError', partial(made, **{name: 1000}), *five
+        yield 'TypeError', partial(made, **{name: 1000, 'rupture_distance': 1000}), *five
+    for name in NO_DISTANCES:
+        # Four fields and a distance are no scenario; and a distance cannot be given in a tuple of its own.
+        yield 'TypeError', partial(made, **{name: 1000}), *five[:4]
+        for wrong in ((1000,), [1000], {}, b'', '', '-', 0.0, False, Decimal(0), 1000.0, 'None'):
+            yield 'TypeError', partial(made, **{name: wrong}), *five
+
+
+def distances_faults(fusnoch):
+    """Yield what is wrong with the distances of Python's wrapper: each a whole number, or None where it is absent."""
+    if fusnoch.LONGEST_RECORD != streams.LONGEST:
+        yield f'LONGEST_RECORD is {fusnoch.LONGEST_RECORD}, {streams.LONGEST} is due'
+    for model, rupture, projection in product((IDRISS, BOORE_ATKINSON, 3), streams.DISTANCES, streams.DISTANCES):
+        scenario = Scenario(model, 700, rupture, 7600, 2, 75, projection)
+        made = in_python(fusnoch, scenario)
+        given = {name: number for name, number in (('rupture_distance', rupture), ('projection_distance', projection))
+                 if number is not None}
+        # A distance that is not given is absent, as one that is None; it is not 0.
+        if fusnoch.Scenario(model, 700, 7600, 2, 75, **given) != made:
+            yield f'{scenario}: not the same where an absent distance is not given'
+        for name in NO_DISTANCES:
+            zero = in_python(fusnoch, scenario._replace(**{name: 0}))
+            if (zero == made) != (getattr(scenario, name) == 0):
+                yield f'{scenario}: {name} absent and 0 are not told apart'
+        number = refusal(scenario)
+        if number:
+            yield from refused_faults(fusnoch, made, number)
+            continue
+        back, rest = fusnoch.read(record(scenario) + b'rest')
+        if (back, bytes(rest)) != (made, b'rest'):
+            yield f'{scenario}: read back as {back}, {rest}'
+        for one in (made, back):
+            distances = one.rupture_distance, one.projection_distance
+            if distances != (rupture, projection) or not {type(number) for number in distances} <= {int, type(None)}:
+                yield f'{scenario}: the distances are {distances}'
+
+
+def refused_faults(fusnoch, scenario, number):
+    """Yield what is wrong with the refusals of a scenario of Python's wrapper in writing, with its words."""
+    lent = bytearray(b'lent to the wrapper')
+    for function, *given in ((fusnoch.record, scenario), (fusnoch.write, scenario, lent)):
+        try:
+            got = function(*given)
+        except fusnoch.Refused as refused:
+            got = refused.number, refused.words, str(refused)
+        if got != (number, WORDS[number - 1], refusal_words(number)):
+            yield f'{function.__name__}({scenario}): {got}, refusal {number} is due'
+    if lent != b'lent to the wrapper':
+        yield f'{scenario}: {lent} is left'
 
 
 def unfit_rows(fusnoch):
@@ -399,9 +581,10 @@ def rows_faults(fusnoch):
 def python_calls(fusnoch):
     """Yield what is due, a function of Python's wrapper and its arguments."""
     yield from unfit_fields(fusnoch)
+    yield from unfit_calls(fusnoch)
     yield from unfit_rows(fusnoch)
     whole = WHOLE[IDRISS]
-    scenario = fusnoch.Scenario(*whole)
+    scenario = in_python(fusnoch, whole)
     for function in (fusnoch.read, fusnoch.answer_record, fusnoch.answer_record_in_doubles):
         for wrong in (9, record(whole).hex(), list(record(whole)), None):
             yield 'TypeError', function, wrong
@@ -411,23 +594,30 @@ def python_calls(fusnoch):
         yield 'TypeError', function, tuple(whole)
     for kind in (bytes, bytearray, memoryview):
         yield (scenario, b'rest'), fusnoch.read, kind(record(whole) + b'rest')
-    for one in WHOLE.values():
-        yield record(one), fusnoch.record, fusnoch.Scenario(*one)
+    for one in (*WHOLE.values(), *map(without_other_distance, WHOLE.values())):
+        yield record(one), fusnoch.record, in_python(fusnoch, one)
     for period in streams.REFUSED_PERIODS:
-        yield 'Refused', fusnoch.record, fusnoch.Scenario(*whole._replace(period=period))
+        yield 'Refused', fusnoch.record, in_python(fusnoch, whole._replace(period=period))
     for one in (whole._replace(period=70), WHOLE[BOORE_ATKINSON]._replace(period=40)):
-        yield record(one), fusnoch.record, fusnoch.Scenario(*one)
+        yield record(one), fusnoch.record, in_python(fusnoch, one)
+
+
+def numbers_in(structure):
+    """Yield all numbers of a structure of ctypes, and of those in it."""
+    for name, *_ in structure._fields_:
+        value = getattr(structure, name)
+        yield from numbers_in(value) if isinstance(value, Structure) else [value]
 
 
 def zeros_faults(fusnoch):
     """Yield what the library's own reading, writing and rows hand back with a refusal besides its number."""
     library = fusnoch.LIBRARY
-    writing = library.fusnoch_write(fusnoch.c_scenario(fusnoch.Scenario(*WHOLE[IDRISS])), None, 0)
+    writing = library.fusnoch_write(fusnoch.c_scenario(in_python(fusnoch, WHOLE[IDRISS])), None, 0)
     if (writing.number, writing.length) != (12, 0):
         yield f'fusnoch_write: {writing.number}, {writing.length}: 12 and 0 are due'
-    for number, data in streams.REFUSED.items():
+    for number, data in streams.REFUSED.values():
         reading = library.fusnoch_read(data, len(data))
-        others = [reading.length, *(getattr(reading.scenario, name) for name, _ in streams.FIELDS)]
+        others = [reading.length, *numbers_in(reading.scenario)]
         if reading.number != number or any(others):
             yield f'fusnoch_read: {data.hex()}: {reading.number}, {others}: {number} and zeros are due'
     for model, period, number in ((0, 75, 1), (255, 9, 1), (1, 9, 6), (2, 10001, 6)):
@@ -441,7 +631,7 @@ def page_full_fault(fusnoch):
     """Return what is wrong with a refusal and with what the caller does next, or None."""
     lent = bytearray(b'short')
     try:
-        fusnoch.write(fusnoch.Scenario(*WHOLE[IDRISS]), lent)
+        fusnoch.write(in_python(fusnoch, WHOLE[IDRISS]), lent)
     except fusnoch.Refused as refused:
         # The caller can go on with the lent bytes.
         lent.extend(b'er')
@@ -454,10 +644,11 @@ def python_faults(fusnoch):
     """Yield the faults of Python's wrapper where no types see to the caller's mistakes."""
     yield from zeros_faults(fusnoch)
     yield from rows_faults(fusnoch)
+    yield from distances_faults(fusnoch)
     for due, function, *given in python_calls(fusnoch):
         got = raised(function, *given)
         if got != due:
-            yield f'{function.__name__}{tuple(given)}: {got!r}, {due!r} is due'
+            yield f'{getattr(function, "__name__", function)}{tuple(given)}: {got!r}, {due!r} is due'
     wrong = page_full_fault(fusnoch)
     if wrong:
         yield wrong
@@ -483,17 +674,20 @@ def main(words):
         return 2
     asks, spectra = dict(zip(HOSTS, words[1:4])), dict(zip(HOSTS, words[4:7]))
     count, seed = map(int, words[7:] + [COUNT, SEED][len(words) - 7:])
-    answers, asked, small = Answers(), all_questions(random.Random(seed), count), small_questions()
+    rng = random.Random(seed)
+    answers, asked, small = Answers(), all_questions(rng, count), small_questions()
+    flags = flag_questions(rng, FLAGGED)
     faults = check_asks(answers, asks, asked)
+    faults += check_flags(answers, asks['C'], flags)
     faults += check_memory(answers, asks, small)
     faults += check_spectra(answers, spectra)
     faults += check_python(asks['Python'])
     faults += answers.tally.faults
     for fault in faults[:FAULTS_SHOWN]:
         print(f'FAILED {fault}')
-    print(f'hosts: seed {seed}, {len(asked)} questions to each of {", ".join(HOSTS)}, {len(answers.known)} scenarios '
-          f'enclosed, {len(small)} questions under valgrind to each of {", ".join(WATCHED)}, {len(faults)} faults, '
-          f'greatest widths: {answers.tally.greatest_widths()}')
+    print(f'hosts: seed {seed}, {len(asked)} questions to each of {", ".join(HOSTS)}, {len(flags)} to C alone, '
+          f'{len(answers.known)} scenarios enclosed, {len(small)} questions under valgrind to each of '
+          f'{", ".join(WATCHED)}, {len(faults)} faults, greatest widths: {answers.tally.greatest_widths()}')
     return 1 if faults else 0
 
 

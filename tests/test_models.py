@@ -12,6 +12,7 @@ natural logarithm, or a table number, or `none` where an argument is outside the
     nonlinear ROW VELOCITY LOW HIGH                             -> LOW HIGH
     table MAGNITUDE                                             -> 2 or 3
 
+DISTANCE is the one that the model reads: to the rupture for Idriss, to its surface projection for Boore-Atkinson.
 The probe knows rows, and for Idriss's sigma every accepted period.  What models.py gives between the rows is checked
 here by itself; the programs that answer are held against it in the other tests.  COUNT is how many questions are drawn
 besides the fixed ones, 20,000 unless given.
@@ -146,7 +147,7 @@ def any_magnitude(rng, limits):
 
 
 def any_distance(rng, limits):
-    """Draw a distance within the limits, one time in three a short one."""
+    """Draw a distance that the model reads within the limits, one time in three a short one."""
     last = limits.distance[1]
     return rng.randint(0, rng.choice((last, last, 1000)))
 
@@ -247,21 +248,21 @@ def in_one_place(rng):
 # ---------------------------------------------------------------------------
 
 def rock_estimate(magnitude, mechanism):
-    """Return a function of the distance: a rough p, the logarithm of the rock acceleration."""
+    """Return a function of the projection distance: a rough p, the logarithm of the rock acceleration."""
     factor = float(models.distance_factor(0, magnitude)) / 2
     term = float(models.magnitude_term(0, magnitude, mechanism))
     c3 = float(row_of('boore-atkinson-6', 0)['c3'])
 
-    def estimate(distance):
+    def estimate(projection_distance):
         """Return p for a distance."""
-        x = models.sum_of_squares(0, distance)
+        x = models.sum_of_squares(0, projection_distance)
         return term + factor * math.log(x / 10000) + c3 * (math.sqrt(x) / 100 - 1)
 
     return estimate
 
 
 def next_to(threshold, magnitude, mechanism):
-    """Return the distances on both sides of a threshold of p, each with how far p is from it."""
+    """Return the projection distances on both sides of a threshold of p, each with how far p is from it."""
     estimate = rock_estimate(magnitude, mechanism)
     near, far = BOORE_ATKINSON.distance
     if not estimate(near) > threshold >= estimate(far):
@@ -287,7 +288,7 @@ def by_distance_to(number):
 
 
 def closest(number, how_many):
-    """Return magnitude, distance and mechanism of the scenarios whose p is closest to the logarithm of a number."""
+    """Return magnitude, projection distance and mechanism of scenarios whose p is closest to the ln of a number."""
     return [fields for _, *fields in by_distance_to(number)[:how_many]]
 
 
@@ -674,8 +675,20 @@ def pairs_at(model, period, fields, n):
 
 def pairs_elsewhere(model, period, fields, n):
     """Return the formulas' pairs by formula_pairs.py, each with its place; of Idriss by the magnitude's own table."""
-    pairs = formula_pairs.formula_pairs(formula_pairs.OUTWARD, records.Scenario(model, *fields, period), n)
+    pairs = formula_pairs.formula_pairs(formula_pairs.OUTWARD, records.with_own_distance(model, *fields, period), n)
     return [(models.table_of(fields[0]) - 2, pairs[0])] if model == records.IDRISS else [*enumerate(pairs)]
+
+
+def other_distance():
+    """Check that the pairs of formula_pairs.py rest on the distance that the model reads, and on no other."""
+    for model, other in ((records.IDRISS, 0), (records.BOORE_ATKINSON, FIELD_END)):
+        alone = records.with_own_distance(model, 650, 100, 5000, 2, 70)
+        both = alone._replace(**{records.OTHER_DISTANCE[model]: other})
+        further = alone._replace(**{records.OWN_DISTANCE[model]: 101})
+        pairs, same, unlike = (formula_pairs.formula_pairs(formula_pairs.OUTWARD, one, 1)
+                               for one in (alone, both, further))
+        yield f'model {model}, another distance that it does not read', same == pairs
+        yield f'model {model}, another distance that it reads', unlike != pairs
 
 
 def around(p, q, room):
@@ -731,7 +744,7 @@ def sums_and_pairs(questions):
 def self_checks(questions):
     """Return a message for each check of models.py that does not hold."""
     checks = [*marked_values(), *continuity(), *printed_in_text(), *sums_and_pairs(questions)]
-    checks += [*true_units(), *between_the_rows(random.Random(SEED))]
+    checks += [*true_units(), *between_the_rows(random.Random(SEED)), *other_distance()]
     return [f'models.py: {what}' for what, holds in checks if not holds], len(checks)
 
 

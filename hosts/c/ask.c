@@ -1,5 +1,5 @@
 /* Answers lines of standard input through the safe wrapper, one line each, for the tests (bytes are hexadecimal pairs,
-   - for none; a SCENARIO is model magnitude distance velocity mechanism period):
+   - for none; a SCENARIO is MODEL MAGNITUDE RUPTURE VELOCITY MECHANISM PERIOD PROJECTION, - for an absent distance):
    refusal SCENARIO       the number of the refusal, 0 for none
    read BYTES             E SCENARIO LENGTH REST, or R NUMBER REST
    write SCENARIO BYTES   L LENGTH BYTES, or R NUMBER BYTES: what is lent, and as it is afterwards
@@ -10,7 +10,11 @@
    rows_words MODEL PERIOD
                           the same in words
    null                   the numbers of reading, answering from a record in both ways, and writing, with null pointers
-                          by fusnoch.h, and by the wrapper where the length says otherwise */
+                          by fusnoch.h, and by the wrapper where the length says otherwise
+   And in C alone, of the plain struct of fusnoch.h (FIELDS are its nine numbers, with the flags, in their order):
+   refusal_flags FIELDS   as refusal
+   answer_flags FIELDS    as answer
+   read_flags BYTES       NUMBER FIELDS LENGTH, as fusnoch_read hands them back */
 #include <inttypes.h>
 #include <stdio.h>
 #include <stdlib.h>
@@ -18,7 +22,13 @@
 
 #include "ground_motion.h"
 
-enum { LONGEST = 70000 };
+enum { LONGEST = 70000, SCENARIO_WORDS = 7, FLAGS_WORDS = 9, MOST_WORDS = 11 };
+
+/* The words of a line; the first is the name of the question, and no question has the most. */
+typedef struct {
+    size_t count;
+    char *at[MOST_WORDS];
+} Words;
 
 /* Bytes in memory of just their length, so that valgrind sees what is beyond. */
 typedef struct {
@@ -40,17 +50,70 @@ static int take_bytes(const char *text, Bytes *bytes)
     return 1;
 }
 
-/* A number that does not fit its field is no scenario. */
-static int take_scenario(const char *text, fusnoch_scenario *s, int *used)
+/* A number up to the most: one that does not fit its field is none. */
+static int take_number(const char *word, unsigned long most, unsigned long *number)
 {
-    unsigned f[6];
+    *number = strtoul(word, NULL, 10);
+    return *word != '\0' && word[strspn(word, "0123456789")] == '\0' && *number <= most;
+}
 
-    if (sscanf(text, "%u %u %u %u %u %u%n", &f[0], &f[1], &f[2], &f[3], &f[4], &f[5], used) != 6)
+static int take_u8(const char *word, uint8_t *field)
+{
+    unsigned long number;
+    int fits = take_number(word, UINT8_MAX, &number);
+
+    *field = (uint8_t)number;
+    return fits;
+}
+
+static int take_u16(const char *word, uint16_t *field)
+{
+    unsigned long number;
+    int fits = take_number(word, UINT16_MAX, &number);
+
+    *field = (uint16_t)number;
+    return fits;
+}
+
+/* A distance, or - where it is absent. */
+static int take_rupture(const char *word, fusnoch_scenario *s)
+{
+    ground_motion_rupture_distance distance;
+
+    if (strcmp(word, "-") == 0)
+        return 1;
+    if (!take_u16(word, &distance.hundredths))
         return 0;
-    *s = (fusnoch_scenario){(uint8_t)f[0], (uint16_t)f[1], (uint16_t)f[2], (uint16_t)f[3], (uint8_t)f[4],
-                            (uint16_t)f[5]};
-    return s->model == f[0] && s->magnitude == f[1] && s->distance == f[2] && s->velocity == f[3]
-           && s->mechanism == f[4] && s->period == f[5];
+    ground_motion_set_rupture_distance(s, distance);
+    return 1;
+}
+
+static int take_projection(const char *word, fusnoch_scenario *s)
+{
+    ground_motion_projection_distance distance;
+
+    if (strcmp(word, "-") == 0)
+        return 1;
+    if (!take_u16(word, &distance.hundredths))
+        return 0;
+    ground_motion_set_projection_distance(s, distance);
+    return 1;
+}
+
+static int take_scenario(char *const word[SCENARIO_WORDS], fusnoch_scenario *s)
+{
+    *s = (fusnoch_scenario){.model = 0};
+    return take_u8(word[0], &s->model) && take_u16(word[1], &s->magnitude) && take_rupture(word[2], s)
+           && take_u16(word[3], &s->velocity) && take_u8(word[4], &s->mechanism) && take_u16(word[5], &s->period)
+           && take_projection(word[6], s);
+}
+
+static int take_flags(char *const word[FLAGS_WORDS], fusnoch_scenario *s)
+{
+    return take_u8(word[0], &s->model) && take_u16(word[1], &s->magnitude) && take_u8(word[2], &s->rupture_present)
+           && take_u16(word[3], &s->rupture_distance) && take_u16(word[4], &s->velocity)
+           && take_u8(word[5], &s->mechanism) && take_u16(word[6], &s->period)
+           && take_u8(word[7], &s->projection_present) && take_u16(word[8], &s->projection_distance);
 }
 
 static void print_bytes(const uint8_t *bytes, size_t length)
@@ -92,16 +155,36 @@ static void print_rows(fusnoch_periods rows)
         printf("R %u with periods\n", rows.number);
 }
 
+static void print_distance(uint8_t present, uint16_t distance)
+{
+    if (present)
+        printf("%u ", distance);
+    else
+        printf("- ");
+}
+
 static void print_reading(ground_motion_reading r, const uint8_t *bytes)
 {
     fusnoch_scenario s = r.scenario;
 
-    if (r.number == 0)
-        printf("E %u %u %u %u %u %u %td ", s.model, s.magnitude, s.distance, s.velocity, s.mechanism, s.period,
-               r.rest - bytes);
-    else
+    if (r.number == 0) {
+        printf("E %u %u ", s.model, s.magnitude);
+        print_distance(s.rupture_present, s.rupture_distance);
+        printf("%u %u %u ", s.velocity, s.mechanism, s.period);
+        print_distance(s.projection_present, s.projection_distance);
+        printf("%td ", r.rest - bytes);
+    } else
         printf("R %u ", r.number);
     print_bytes(r.rest, r.rest_length);
+}
+
+static void print_reading_flags(fusnoch_reading r)
+{
+    fusnoch_scenario s = r.scenario;
+
+    printf("%u %u %u %u %u %u %u %u %u %u %zu\n", r.number, s.model, s.magnitude, s.rupture_present,
+           s.rupture_distance, s.velocity, s.mechanism, s.period, s.projection_present, s.projection_distance,
+           r.length);
 }
 
 static void print_writing(fusnoch_writing w, Bytes lent)
@@ -116,31 +199,20 @@ static void print_writing(fusnoch_writing w, Bytes lent)
 /* No bytes at all, and no bytes with a length that says otherwise. */
 static void print_null(void)
 {
-    fusnoch_scenario accepted = {GROUND_MOTION_IDRISS, 700, 1000, 7600, GROUND_MOTION_REVERSE, 75};
+    fusnoch_scenario accepted = {.model = GROUND_MOTION_IDRISS, .magnitude = 700, .velocity = 7600,
+                                 .mechanism = GROUND_MOTION_REVERSE, .period = 75};
 
+    ground_motion_set_rupture_distance(&accepted, (ground_motion_rupture_distance){.hundredths = 1000});
     printf("%u %u %u %u ", fusnoch_read(NULL, 0).number, fusnoch_answer_record(NULL, 0).number,
            fusnoch_answer_record_in_doubles(NULL, 0).number, fusnoch_write(accepted, NULL, 0).number);
     printf("%u %u %u %u\n", ground_motion_read(NULL, 5).number, ground_motion_answer_record(NULL, 5).number,
            ground_motion_answer_record_in_doubles(NULL, 5).number, ground_motion_write(accepted, NULL, 50).number);
 }
 
-/* Answers a question with a scenario; 0 where it is none. */
-static int answer_scenario(const char *name, const char *text)
+/* Answers a question with a scenario and no more; 0 where it is none. */
+static int answer_scenario(const char *name, fusnoch_scenario s)
 {
-    fusnoch_scenario s;
-    Bytes lent = {NULL, 0};
-    int used, known = 1;
-
-    if (!take_scenario(text, &s, &used))
-        return 0;
-    if (strcmp(name, "write") == 0) {
-        known = text[used] == ' ' && take_bytes(text + used + 1, &lent);
-        if (known)
-            print_writing(ground_motion_write(s, lent.at, lent.length), lent);
-        free(lent.at);
-    } else if (text[used] != '\0')
-        return 0;
-    else if (strcmp(name, "refusal") == 0)
+    if (strcmp(name, "refusal") == 0)
         printf("%u\n", fusnoch_refusal(s));
     else if (strcmp(name, "answer") == 0)
         print_answer(fusnoch_answer_fields(s));
@@ -148,23 +220,42 @@ static int answer_scenario(const char *name, const char *text)
         print_doubles(fusnoch_answer_fields_in_doubles(s));
     else
         return 0;
+    return 1;
+}
+
+/* Answers a question with the plain struct; 0 where it is none. */
+static int answer_flags(const char *name, fusnoch_scenario s)
+{
+    if (strcmp(name, "refusal_flags") == 0)
+        printf("%u\n", fusnoch_refusal(s));
+    else if (strcmp(name, "answer_flags") == 0)
+        print_answer(fusnoch_answer_fields(s));
+    else
+        return 0;
+    return 1;
+}
+
+/* Answers a question with a scenario and lent bytes; 0 where it is none. */
+static int answer_lent(const char *name, fusnoch_scenario s, const char *text)
+{
+    Bytes lent;
+    int known = take_bytes(text, &lent) && strcmp(name, "write") == 0;
+
+    if (known)
+        print_writing(ground_motion_write(s, lent.at, lent.length), lent);
+    free(lent.at);
     return known;
 }
 
-/* Answers a question with a model and a period; 0 where it is none, or one of them does not fit. */
-static int answer_period(const char *name, const char *text)
+/* Answers a question with a model and a period; 0 where it is none. */
+static int answer_period(const char *name, uint8_t model, uint16_t period)
 {
     char room[GROUND_MOTION_ROWS_ROOM];
-    unsigned model, period;
-    int used;
 
-    if (sscanf(text, "%u %u%n", &model, &period, &used) != 2 || text[used] != '\0' || model > UINT8_MAX
-        || period > UINT16_MAX)
-        return 0;
     if (strcmp(name, "rows") == 0)
-        print_rows(fusnoch_rows((uint8_t)model, (uint16_t)period));
+        print_rows(fusnoch_rows(model, period));
     else if (strcmp(name, "rows_words") == 0)
-        puts(ground_motion_rows_words(room, (uint8_t)model, (uint16_t)period));
+        puts(ground_motion_rows_words(room, model, period));
     else
         return 0;
     return 1;
@@ -178,6 +269,8 @@ static int answer_bytes(const char *name, const char *text)
 
     if (known && strcmp(name, "read") == 0)
         print_reading(ground_motion_read(b.at, b.length), b.at);
+    else if (known && strcmp(name, "read_flags") == 0)
+        print_reading_flags(fusnoch_read(b.at, b.length));
     else if (known && strcmp(name, "answer_record") == 0)
         print_answer(ground_motion_answer_record(b.at, b.length));
     else if (known && strcmp(name, "doubles_record") == 0)
@@ -188,32 +281,76 @@ static int answer_bytes(const char *name, const char *text)
     return known;
 }
 
-/* Answers a line whose name and text are parted; 0 where it is no question. */
-static int answer(const char *name, const char *text)
+/* Answers a question with one word; 0 where it is none. */
+static int answer_word(const char *name, const char *word)
 {
     uint8_t number;
 
-    if (strcmp(name, "null") == 0)
-        print_null();
-    else if (strcmp(name, "words") == 0 && sscanf(text, "%" SCNu8, &number) == 1)
-        puts(ground_motion_words(number));
-    else
-        return answer_scenario(name, text) || answer_period(name, text) || answer_bytes(name, text);
+    if (strcmp(name, "words") != 0)
+        return answer_bytes(name, word);
+    if (!take_u8(word, &number))
+        return 0;
+    puts(ground_motion_words(number));
     return 1;
+}
+
+/* Answers a line; 0 where it is no question.  How many words there are says of what kind they are. */
+static int answer(const Words *line)
+{
+    const char *name = line->at[0];
+    char *const *word = line->at + 1;
+    fusnoch_scenario s;
+    uint8_t model;
+    uint16_t period;
+
+    switch (line->count - 1) {
+    case 0:
+        if (strcmp(name, "null") != 0)
+            return 0;
+        print_null();
+        return 1;
+    case 1:
+        return answer_word(name, word[0]);
+    case 2:
+        return take_u8(word[0], &model) && take_u16(word[1], &period) && answer_period(name, model, period);
+    case SCENARIO_WORDS:
+        return take_scenario(word, &s) && answer_scenario(name, s);
+    case SCENARIO_WORDS + 1:
+        return take_scenario(word, &s) && answer_lent(name, s, word[SCENARIO_WORDS]);
+    case FLAGS_WORDS:
+        return take_flags(word, &s) && answer_flags(name, s);
+    default:
+        return 0;
+    }
+}
+
+/* Parts a line into its words, up to the most. */
+static Words words_of(char *line)
+{
+    Words words = {.count = 0};
+
+    line[strcspn(line, "\n")] = '\0';
+    do {
+        words.at[words.count++] = line;
+        line += strcspn(line, " ");
+        if (*line == '\0')
+            return words;
+        *line++ = '\0';
+    } while (words.count < MOST_WORDS);
+    return words;
 }
 
 int main(void)
 {
     static char line[2 * LONGEST + 100];
-    char *text;
 
     while (fgets(line, sizeof line, stdin)) {
-        line[strcspn(line, "\n")] = '\0';
-        text = line + strcspn(line, " ");
-        if (*text != '\0')
-            *text++ = '\0';
-        if (!answer(line, text)) {
-            fprintf(stderr, "ask: not a question: %s %.200s\n", line, text);
+        Words words = words_of(line);
+        if (!answer(&words)) {
+            fprintf(stderr, "ask: not a question:");
+            for (size_t i = 0; i < words.count; i++)
+                fprintf(stderr, " %.200s", words.at[i]);
+            fprintf(stderr, "\n");
             return 1;
         }
     }

@@ -12,11 +12,12 @@ static const char *const WORDS[] = {
     "mechanism: not a code of the model",
     "period: neither 0 nor from 10 to 10000",
     "cut short: no map byte, or fewer bytes than the map calls for",
-    "spare bit: bit 6 or 7 stands",
-    "wanting: bit 0, 1 or 2 is clear",
+    "spare bit: bit 7 stands",
+    "wanting: bit 0 or 1 is clear, or the distance that the model reads is absent",
     "blank: no bit stands",
     "plain default: a field written with its absent number",
-    "page full: lent bytes shorter than the record"};
+    "page full: lent bytes shorter than the record",
+    "distances: the projection distance exceeds the rupture distance"};
 
 const char *ground_motion_words(uint8_t number)
 {
@@ -52,6 +53,18 @@ const char *ground_motion_rows_words(char room[GROUND_MOTION_ROWS_ROOM], uint8_t
     return room;
 }
 
+void ground_motion_set_rupture_distance(fusnoch_scenario *scenario, ground_motion_rupture_distance distance)
+{
+    scenario->rupture_present = 1;
+    scenario->rupture_distance = distance.hundredths;
+}
+
+void ground_motion_set_projection_distance(fusnoch_scenario *scenario, ground_motion_projection_distance distance)
+{
+    scenario->projection_present = 1;
+    scenario->projection_distance = distance.hundredths;
+}
+
 /* A null pointer counts as no bytes. */
 static size_t present(const uint8_t *bytes, size_t length)
 {
@@ -74,7 +87,8 @@ ground_motion_reading ground_motion_read(const uint8_t *bytes, size_t length)
 
     if (r.number != 0)
         return (ground_motion_reading){.number = r.number};
-    return (ground_motion_reading){0, r.scenario, bytes + r.length, length - r.length};
+    return (ground_motion_reading){
+        .scenario = r.scenario, .rest = bytes + r.length, .rest_length = length - r.length};
 }
 
 fusnoch_writing ground_motion_write(fusnoch_scenario scenario, uint8_t *lent, size_t length)

@@ -3,7 +3,12 @@
    fusnoch_answer_fields_in_doubles and fusnoch_rows take no pointer and are called as they are.
 
    The number of a result is 0, or that of the refusal; a refused result has zeros for all else.  A null pointer counts
-   as no bytes, whatever the length. */
+   as no bytes, whatever the length.
+
+   A scenario has two distances, and each model reads its own: Idriss that to the rupture, Boore-Atkinson that to its
+   surface projection.  A distance stands only where its flag does: a number without its flag is absent, even if it is
+   not 0.  Name the fields of a fusnoch_scenario when you fill it in, {.model = .., .magnitude = ..}, and never go by
+   their places; the two functions below set a distance and its flag, and do not compile with the other distance. */
 #ifndef GROUND_MOTION_H
 #define GROUND_MOTION_H
 
@@ -20,6 +25,19 @@ enum {
     GROUND_MOTION_UNSPECIFIED = 9
 };
 
+/* The two distances, in 0.01 km, each of a type of its own. */
+typedef struct {
+    uint16_t hundredths;
+} ground_motion_rupture_distance;
+
+typedef struct {
+    uint16_t hundredths;
+} ground_motion_projection_distance;
+
+/* Give a scenario the distance to the rupture, or that to its surface projection, and leave all else as it is. */
+void ground_motion_set_rupture_distance(fusnoch_scenario *scenario, ground_motion_rupture_distance distance);
+void ground_motion_set_projection_distance(fusnoch_scenario *scenario, ground_motion_projection_distance distance);
+
 /* A scenario that was read, and the caller's own bytes after its record; none of them where the read is refused. */
 typedef struct {
     uint8_t number;
@@ -28,7 +46,7 @@ typedef struct {
     size_t rest_length;
 } ground_motion_reading;
 
-/* What the number of a refusal, 1 to 12, stands for: "period: neither 0 nor from 10 to 10000". */
+/* What the number of a refusal, 1 to 13, stands for: "period: neither 0 nor from 10 to 10000". */
 const char *ground_motion_words(uint8_t number);
 
 /* Room for the words of ground_motion_rows_words. */

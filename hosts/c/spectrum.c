@@ -7,13 +7,9 @@
 
 #include "ground_motion.h"
 
-/* Each model has its own distance: to the rupture, and to its surface projection. */
-static const fusnoch_scenario IDRISS = {
-    .model = GROUND_MOTION_IDRISS, .magnitude = 700, .distance = 1044, .velocity = 7600,
-    .mechanism = GROUND_MOTION_STRIKE_SLIP};
-static const fusnoch_scenario BOORE_ATKINSON = {
-    .model = GROUND_MOTION_BOORE_ATKINSON, .magnitude = 700, .distance = 1000, .velocity = 7600,
-    .mechanism = GROUND_MOTION_STRIKE_SLIP};
+/* The site's distance to the rupture, and to its surface projection. */
+static const ground_motion_rupture_distance RUPTURE = {.hundredths = 1044};
+static const ground_motion_projection_distance PROJECTION = {.hundredths = 1000};
 
 /* In 0.001 s; 0 is peak acceleration. */
 static const uint16_t PERIODS[] = {0,   10,  20,  30,  40,   50,   70,   75,   100,  150,  200,  250,
@@ -21,15 +17,24 @@ static const uint16_t PERIODS[] = {0,   10,  20,  30,  40,   50,   70,   75,   1
 
 enum { CELL = 58, LONGEST = 128, LINES = sizeof PERIODS / sizeof *PERIODS };
 
-/* The part of one model in a line: ends, or the refusal. */
-static void fill(char cell[LONGEST], fusnoch_scenario scenario, uint16_t period)
+/* The earthquake at the site, with both distances: each model reads its own. */
+static fusnoch_scenario earthquake(uint8_t model, uint16_t period)
 {
-    fusnoch_answer a;
-    fusnoch_doubles d;
+    fusnoch_scenario s = {
+        .model = model, .magnitude = 700, .velocity = 7600, .mechanism = GROUND_MOTION_STRIKE_SLIP, .period = period};
 
-    scenario.period = period;
-    a = fusnoch_answer_fields(scenario);
-    d = fusnoch_answer_fields_in_doubles(scenario);
+    ground_motion_set_rupture_distance(&s, RUPTURE);
+    ground_motion_set_projection_distance(&s, PROJECTION);
+    return s;
+}
+
+/* The part of one model in a line: ends, or the refusal. */
+static void fill(char cell[LONGEST], uint8_t model, uint16_t period)
+{
+    fusnoch_scenario s = earthquake(model, period);
+    fusnoch_answer a = fusnoch_answer_fields(s);
+    fusnoch_doubles d = fusnoch_answer_fields_in_doubles(s);
+
     if (a.number != 0)
         snprintf(cell, LONGEST, "refusal %u, %s", a.number, ground_motion_words(a.number));
     else
@@ -39,13 +44,14 @@ static void fill(char cell[LONGEST], fusnoch_scenario scenario, uint16_t period)
 
 static void print_heading(void)
 {
-    fusnoch_scenario i = IDRISS, b = BOORE_ATKINSON;
+    fusnoch_scenario s = earthquake(GROUND_MOTION_IDRISS, 0);
     char columns[LONGEST];
 
-    printf("Spectrum, 5 percent damped: M %u.%02u, strike-slip, V_S30 %u.%u m/s\n", i.magnitude / 100,
-           i.magnitude % 100, i.velocity / 10, i.velocity % 10);
+    printf("Spectrum, 5 percent damped: M %u.%02u, strike-slip, V_S30 %u.%u m/s\n", s.magnitude / 100,
+           s.magnitude % 100, s.velocity / 10, s.velocity % 10);
     printf("Idriss 2014 at %u.%02u km from the rupture, Boore and Atkinson 2008 at %u.%02u km from its surface "
-           "projection\n", i.distance / 100, i.distance % 100, b.distance / 100, b.distance % 100);
+           "projection\n", s.rupture_distance / 100, s.rupture_distance % 100, s.projection_distance / 100,
+           s.projection_distance % 100);
     puts("median, sigma: ends in units of 10^-9; they enclose the natural logarithm of the median in g, and sigma");
     puts("g, rounded: exp of the middle of the median's ends, to four digits, for reading; it is not enclosed\n");
     printf("%8s | %-*s | %s\n", "", CELL, "Idriss 2014", "Boore and Atkinson 2008");
@@ -61,8 +67,8 @@ static void print_table(void)
     for (int i = 0; i < LINES; i++) {
         if (PERIODS[i] != 0)
             snprintf(name, LONGEST, "%u.%03u", PERIODS[i] / 1000, PERIODS[i] % 1000);
-        fill(idriss, IDRISS, PERIODS[i]);
-        fill(boore_atkinson, BOORE_ATKINSON, PERIODS[i]);
+        fill(idriss, GROUND_MOTION_IDRISS, PERIODS[i]);
+        fill(boore_atkinson, GROUND_MOTION_BOORE_ATKINSON, PERIODS[i]);
         printf("%8s | %-*s | %s\n", name, CELL, idriss, boore_atkinson);
     }
 }
@@ -83,8 +89,8 @@ int main(void)
     print_table();
     puts("\nBetween rows: answered from the two rows named, by the logarithm of the period");
     for (int i = 0; i < LINES; i++) {
-        print_between("Idriss 2014", IDRISS.model, PERIODS[i]);
-        print_between("Boore and Atkinson 2008", BOORE_ATKINSON.model, PERIODS[i]);
+        print_between("Idriss 2014", GROUND_MOTION_IDRISS, PERIODS[i]);
+        print_between("Boore and Atkinson 2008", GROUND_MOTION_BOORE_ATKINSON, PERIODS[i]);
     }
     return 0;
 }

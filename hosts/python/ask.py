@@ -52,7 +52,8 @@ def reading(data):
         scenario, rest = fusnoch.read(data)
     except Refused as refused:
         return f'R {refused.number} -'
-    return ' '.join(map(str, ('E', *astuple(scenario), len(data) - len(rest), show(rest))))
+    numbers = ('-' if number is None else number for number in astuple(scenario))
+    return ' '.join(map(str, ('E', *numbers, len(data) - len(rest), show(rest))))
 
 
 def writing(scenario, lent):
@@ -66,7 +67,7 @@ def writing(scenario, lent):
 
 def null():
     """Return the numbers of reading, answering from a record in both ways, and writing, with no bytes."""
-    accepted = Scenario(fusnoch.IDRISS, 700, 1000, 7600, 2, 75)
+    accepted = Scenario(fusnoch.IDRISS, magnitude=700, velocity=7600, mechanism=2, period=75, rupture_distance=1000)
     functions = LIBRARY.fusnoch_read, LIBRARY.fusnoch_answer_record, LIBRARY.fusnoch_answer_record_in_doubles
     numbers = [function(None, 0).number for function in functions]
     numbers.append(LIBRARY.fusnoch_write(fusnoch.c_scenario(accepted), None, 0).number)
@@ -77,8 +78,11 @@ def null():
 
 
 def scenario_of(words):
-    """Return the scenario of some words."""
-    return Scenario(*map(int, words))
+    """Return the scenario of some words, - for an absent distance."""
+    model, magnitude, rupture, velocity, mechanism, period, projection = (
+        None if word == '-' else int(word) for word in words)
+    return Scenario(model, magnitude, velocity, mechanism, period, rupture_distance=rupture,
+                    projection_distance=projection)
 
 
 QUESTIONS = {

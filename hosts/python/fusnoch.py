@@ -7,14 +7,14 @@ repository's target/lib.
 import ctypes
 import os
 from ctypes import c_char_p, c_double, c_int64, c_size_t, c_uint8, c_uint16, c_void_p
-from dataclasses import dataclass
-from typing import NamedTuple
+from dataclasses import dataclass, field
+from typing import NamedTuple, Optional
 
 IDRISS = 1
 BOORE_ATKINSON = 2
 
 # The bytes of a record with all its fields.
-LONGEST_RECORD = 11
+LONGEST_RECORD = 13
 
 # What the number of a refusal stands for.
 WORDS = {
@@ -25,11 +25,12 @@ WORDS = {
     5: 'mechanism: not a code of the model',
     6: 'period: neither 0 nor from 10 to 10000',
     7: 'cut short: no map byte, or fewer bytes than the map calls for',
-    8: 'spare bit: bit 6 or 7 stands',
-    9: 'wanting: bit 0, 1 or 2 is clear',
+    8: 'spare bit: bit 7 stands',
+    9: 'wanting: bit 0 or 1 is clear, or the distance that the model reads is absent',
     10: 'blank: no bit stands',
     11: 'plain default: a field written with its absent number',
     12: 'page full: lent bytes shorter than the record',
+    13: 'distances: the projection distance exceeds the rupture distance',
 }
 
 
@@ -54,8 +55,13 @@ class Refused(Exception):
 # ---------------------------------------------------------------------------
 
 class _Scenario(ctypes.Structure):
-    _fields_ = [('model', c_uint8), ('magnitude', c_uint16), ('distance', c_uint16), ('velocity', c_uint16),
-                ('mechanism', c_uint8), ('period', c_uint16)]
+    _fields_ = [('model', c_uint8), ('magnitude', c_uint16), ('rupture_present', c_uint8),
+                ('rupture_distance', c_uint16), ('velocity', c_uint16), ('mechanism', c_uint8), ('period', c_uint16),
+                ('projection_present', c_uint8), ('projection_distance', c_uint16)]
+
+
+# The flags of the distances: where one is 0, the distance is absent, whatever its number.
+_FLAGS = {'rupture_distance': 'rupture_present', 'projection_distance': 'projection_present'}
 
 
 class _Answer(ctypes.Structure):
@@ -114,19 +120,27 @@ def _must_fit(name, kind, number):
 
 @dataclass(frozen=True)
 class Scenario:
-    """The fields of a scenario, whole numbers in the units named here."""
+    """The fields of a scenario, whole numbers in the units named here.
+
+    Of the two distances a model reads its own, and the other may be absent: None.  They are given by name only, so
+    that neither is taken for the other.
+    """
 
     model: int  # 1 Idriss, 2 Boore-Atkinson
     magnitude: int  # 0.01
-    distance: int  # 0.01 km, to the rupture (Idriss) or to its surface projection (Boore-Atkinson)
+    rupture_distance: Optional[int] = field(default=None, kw_only=True)  # 0.01 km, to the rupture; Idriss reads it
     velocity: int  # V_S30, 0.1 m/s
     mechanism: int  # 0 strike-slip, 1 normal, 2 reverse, 3 reverse oblique, 4 other oblique, 9 unspecified
     period: int  # 0.001 s; 0 is peak acceleration
+    # 0.01 km, to the surface projection of the rupture; Boore-Atkinson reads it
+    projection_distance: Optional[int] = field(default=None, kw_only=True)
 
     def __post_init__(self):
-        """See that each number fits its field."""
-        for name, kind in _Scenario._fields_:
-            _must_fit(name, kind, getattr(self, name))
+        """See that each number fits its field; a distance may be absent."""
+        kinds = dict(_Scenario._fields_)
+        for name, number in vars(self).items():
+            if number is not None or name not in _FLAGS:
+                _must_fit(name, kinds[name], number)
 
 
 class Enclosure(NamedTuple):
@@ -159,7 +173,18 @@ def c_scenario(scenario):
     """Return a scenario as fusnoch.h has it."""
     if not isinstance(scenario, Scenario):
         raise TypeError(f'a Scenario is wanted, not {scenario!r}')
-    return _Scenario(**vars(scenario))
+    numbers = {name: number for name, number in vars(scenario).items() if number is not None}
+    flags = {flag: int(name in numbers) for name, flag in _FLAGS.items()}
+    return _Scenario(**numbers, **flags)
+
+
+def _scenario(given):
+    """Return the scenario of a struct of fusnoch.h."""
+    numbers = {name: getattr(given, name) for name, _ in _Scenario._fields_}
+    for name, flag in _FLAGS.items():
+        if numbers.pop(flag) == 0:
+            numbers[name] = None
+    return Scenario(**numbers)
 
 
 def _bytes(data):
@@ -229,8 +254,7 @@ def read(data):
     given = _bytes(data)
     reading = LIBRARY.fusnoch_read(given, len(given))
     _unless_refused(reading.number)
-    fields = {name: getattr(reading.scenario, name) for name, _ in _Scenario._fields_}
-    return Scenario(**fields), given[reading.length:]
+    return _scenario(reading.scenario), given[reading.length:]
 
 
 def write(scenario, lent):

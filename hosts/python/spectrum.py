@@ -11,9 +11,9 @@ from dataclasses import replace
 import fusnoch
 from fusnoch import Refused, Scenario
 
-# Each model has its own distance: to the rupture, and to its surface projection.
-IDRISS = Scenario(fusnoch.IDRISS, magnitude=700, distance=1044, velocity=7600, mechanism=0, period=0)
-BOORE_ATKINSON = replace(IDRISS, model=fusnoch.BOORE_ATKINSON, distance=1000)
+# The earthquake at the site, with both distances: each model reads its own.
+EARTHQUAKE = Scenario(fusnoch.IDRISS, magnitude=700, velocity=7600, mechanism=0, period=0, rupture_distance=1044,
+                      projection_distance=1000)
 
 # In 0.001 s; 0 is peak acceleration.
 PERIODS = (0, 10, 20, 30, 40, 50, 70, 75, 100, 150, 200, 250, 300, 400, 500, 750, 1000, 1500, 2000, 3000, 4000, 5000,
@@ -41,10 +41,10 @@ def heading():
     """Return the lines above the table."""
     columns = ' '.join(['  median low', ' median high', 'g, rounded', ' sigma low', 'sigma high'])
     return f'''\
-Spectrum, 5 percent damped: M {hundredths(IDRISS.magnitude)}, strike-slip, V_S30 \
-{IDRISS.velocity // 10}.{IDRISS.velocity % 10} m/s
-Idriss 2014 at {hundredths(IDRISS.distance)} km from the rupture, Boore and Atkinson 2008 at \
-{hundredths(BOORE_ATKINSON.distance)} km from its surface projection
+Spectrum, 5 percent damped: M {hundredths(EARTHQUAKE.magnitude)}, strike-slip, V_S30 \
+{EARTHQUAKE.velocity // 10}.{EARTHQUAKE.velocity % 10} m/s
+Idriss 2014 at {hundredths(EARTHQUAKE.rupture_distance)} km from the rupture, Boore and Atkinson 2008 at \
+{hundredths(EARTHQUAKE.projection_distance)} km from its surface projection
 median, sigma: ends in units of 10^-9; they enclose the natural logarithm of the median in g, and sigma
 g, rounded: exp of the middle of the median's ends, to four digits, for reading; it is not enclosed
 
@@ -66,7 +66,7 @@ def main():
     print(heading())
     for period in PERIODS:
         name = f'{period // 1000}.{period % 1000:03}' if period else 'PGA'
-        idriss, boore_atkinson = (cell(replace(scenario, period=period)) for scenario in (IDRISS, BOORE_ATKINSON))
+        idriss, boore_atkinson = (cell(replace(EARTHQUAKE, model=model, period=period)) for model in MODELS)
         print(f'{name:>8} | {idriss:58} | {boore_atkinson}')
     print('\nBetween rows: answered from the two rows named, by the logarithm of the period')
     for period in PERIODS:

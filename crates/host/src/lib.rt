@@ -10,6 +10,8 @@ ghost use Rattle.host_theory.specs.Promise.{HostAnswerPromise, HostDoublesPromi
 ghost use Rattle.host_theory.specs.Promise.{HostWritingPromise, rowsRefusal, HostRowsPromise};
 use engine_theory::DoublesAnswer;
 use engine_theory::FlatAnswer;
+use host_scenario::fields_of;
+use host_scenario::scenario_from;
 use host_theory::HostDoubles;
 use host_theory::HostPeriods;
 use host_theory::HostReading;
@@ -18,20 +20,6 @@ use host_theory::HostWriting;
 use record_theory::Reading;
 use record_theory::Writing;
 use scenario_theory::RowPeriods;
-use scenario_theory::Scenario;
-
-fn scenario_from(s: HostScenario) -> Scenario
-    ensures { λ r. ⌜ r ≡ scenarioFrom s ⌝ }
-{
-    Scenario {
-        model: s.model,
-        magnitude: s.magnitude,
-        distance: s.distance,
-        velocity: s.velocity,
-        mechanism: s.mechanism,
-        period: s.period,
-    }
-}
 
 fn tell_doubles(a: DoublesAnswer) -> HostDoubles
     ensures { λ r. ⌜ r ≡ toldDoubles a ⌝ }
@@ -69,7 +57,7 @@ pub extern "C" fn fusnoch_rows(model: u8, period: u16) -> HostPeriods
     ensures { λ r. ⌜ r ≡ toldPeriods (rowPeriodsOf model period) ⌝ }
     ensures { λ r. ⌜ HostRowsPromise (rowsRefusal model period) period r ⌝ }
 {
-    match scenario::row_periods(model, period) {
+    match scenario_periods::row_periods(model, period) {
         RowPeriods::Rows(lower, upper) => HostPeriods {
             number: 0,
             lower,
@@ -133,14 +121,7 @@ pub extern "C" fn fusnoch_read(bytes: &[u8]) -> HostReading
     match record_reading::read(bytes) {
         Reading::Read(x, length) => HostReading {
             number: 0,
-            scenario: HostScenario {
-                model: x.model,
-                magnitude: x.magnitude,
-                distance: x.distance,
-                velocity: x.velocity,
-                mechanism: x.mechanism,
-                period: x.period,
-            },
+            scenario: fields_of(x),
             length,
         },
         Reading::Refused(number) => HostReading {
@@ -148,10 +129,13 @@ pub extern "C" fn fusnoch_read(bytes: &[u8]) -> HostReading
             scenario: HostScenario {
                 model: 0,
                 magnitude: 0,
-                distance: 0,
+                rupture_present: 0,
+                rupture_distance: 0,
                 velocity: 0,
                 mechanism: 0,
                 period: 0,
+                projection_present: 0,
+                projection_distance: 0,
             },
             length: 0,
         },

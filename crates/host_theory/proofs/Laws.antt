@@ -1,14 +1,18 @@
 -- The promises of what C is told follow from the engine's.
 use mathlib.Core.Path.{_≡_, refl, sym}
 use mathlib.Core.List.{List}
+use mathlib.Core.Logic.{inl, inr}
+use mathlib.Core.Option.{Option, none, some}
 use Prim.Native.Nat.{ℕ, zero}
 use native.Mathlib.Omega.{arith}
 use lib.IntN.{pos}
 use lib.Ieee.{ofBits, ofInt}
 use lib.ListN.{length}
 use Rattle.scenario_theory.specs.declared.Scenario.{Scenario}
+use Rattle.scenario_theory.specs.Distances.{ruptureNumber, projectionNumber}
 use Rattle.scenario_theory.specs.Refusal.{refusalOf}
-use Rattle.record_theory.specs.Outcome.{readRefusal, readOf, writeRefusal, writeOf}
+use Rattle.scenario_theory.proofs.DistanceLaws.{rupture-of, projection-of}
+use Rattle.record_theory.specs.Outcome.{scenarioIn, readRefusal, readOf, writeRefusal, writeOf}
 use Rattle.record_theory.specs.Outcome.{lentAfter}
 use Rattle.scenario_theory.proofs.CheckLaws.{by-number}
 use Rattle.engine_theory.specs.declared.Answer.{Answer}
@@ -22,8 +26,9 @@ use Rattle.engine_theory.proofs.FlatLaws.{told-promised}
 use Rattle.host_theory.specs.declared.HostDoubles.{HostDoubles}
 use Rattle.host_theory.specs.declared.HostReading.{HostReading}
 use Rattle.host_theory.specs.declared.HostWriting.{HostWriting}
+use Rattle.host_theory.specs.Told.{flagged, flaggedOf, scenarioFrom, fieldsOf}
 use Rattle.host_theory.specs.Told.{toldDoubles, toldReading, toldWriting, zeroDouble}
-use Rattle.host_theory.specs.Promise.{HostDoublesPromise, HostReadingPromise, HostWritingPromise}
+use Rattle.host_theory.specs.Promise.{HostDoublesPromise, PlainFlag, HostReadingPromise, HostWritingPromise}
 
 zero-equals : engine.Equals zeroDouble (pos 0)
 unfolding ofBits ofInt
@@ -44,15 +49,43 @@ module _ (s : Scenario) (k : ℕ) (accepted : k ≡ 0 → refusalOf s ≡ 0) whe
 
 -- ---- reading and writing
 
+-- a distance by the flag that it is told with is that distance
+flag-back : (o : Option ℕ) → flagged (flaggedOf o .present) (flaggedOf o .distance) ≡ o
+flag-back none = refl
+flag-back (some x) = refl
+
+plain : (o : Option ℕ) → PlainFlag (flaggedOf o .present) (flaggedOf o .distance)
+plain none = inl (refl, refl)
+plain (some x) = inr refl
+
+-- so the fields of a scenario are those of that scenario
+fields-back : (x : Scenario) → scenarioFrom (fieldsOf x) ≡ x
+fields-back x =
+    rw (flag-back (ruptureNumber (x .rupture)), flag-back (projectionNumber (x .projection)), rupture-of, projection-of)
+    refl
+
 -- every reading of which the contract says `r ≡ ..` keeps the promise
 pub reads : {r : HostReading} (s : List ℕ) → r ≡ toldReading (readOf s) →
     (r ≡ toldReading (readOf s)) × HostReadingPromise s r
 unfolding readOf
 reads s e =
     let p = by-number (λ r. HostReadingPromise s (toldReading r)) (readRefusal s)
-    (λ z. record { number = sym z; scenario = λ h. refl; length = λ h. refl; zeros = λ h. absurd (h z) })
-    (λ n.
-    record { number = refl; scenario = λ h. absurd (n h); length = λ h. absurd (n h); zeros = λ h. (refl, refl) }) in
+    (λ z. record {
+      number = sym z;
+      scenario = λ h. fields-back (scenarioIn s);
+      rupture = plain (ruptureNumber (scenarioIn s .rupture));
+      projection = plain (projectionNumber (scenarioIn s .projection));
+      length = λ h. refl;
+      zeros = λ h. absurd (h z);
+    })
+    (λ n. record {
+      number = refl;
+      scenario = λ h. absurd (n h);
+      rupture = inl (refl, refl);
+      projection = inl (refl, refl);
+      length = λ h. absurd (n h);
+      zeros = λ h. (refl, refl);
+    }) in
     (e, rw e p)
 
 pub writes : {r : HostWriting} {after : List ℕ} (x : Scenario) (lent : List ℕ) → r ≡ toldWriting (writeOf x lent) →

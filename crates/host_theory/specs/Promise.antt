@@ -3,6 +3,7 @@
 use mathlib.Core.Path.{_≡_}
 use mathlib.Core.Bool.{not, _||_}
 use mathlib.Core.List.{List, [], _∷_}
+use mathlib.Core.Logic.{_⊎_}
 use Prim.Native.Nat.{ℕ, _≤_}
 use lib.Dec.{eqb}
 use lib.Ieee.{Float}
@@ -35,10 +36,16 @@ pub record HostDoublesPromise (k : ℕ) (s : Scenario) (a : FlatAnswer) (d : Hos
   pub number : d .number ≡ a .number
   pub equal : AllEqual (doublesIn d) (endsIn a)
 
+-- a flag is 0, with 0 for its number, or 1
+abbrev pub PlainFlag : ℕ → ℕ → Type 0
+PlainFlag flag number = ((flag ≡ 0) × (number ≡ 0)) ⊎ (flag ≡ 1)
+
 -- "Reading hands back the scenario", with its record's length; "A refusal returns its number only"
 pub record HostReadingPromise (bytes : List ℕ) (r : HostReading) : Type 0 where
   pub number : r .number ≡ readRefusal bytes
   pub scenario : readRefusal bytes ≡ 0 → scenarioFrom (r .scenario) ≡ scenarioIn bytes
+  pub rupture : PlainFlag (r .scenario .«rupture_present») (r .scenario .«rupture_distance»)
+  pub projection : PlainFlag (r .scenario .«projection_present») (r .scenario .«projection_distance»)
   pub length : readRefusal bytes ≡ 0 → r .length ≡ lengthBy (mapIn bytes)
   pub zeros : (readRefusal bytes ≡ 0 → ⊥) → (r .scenario ≡ noFields) × (r .length ≡ 0)
 

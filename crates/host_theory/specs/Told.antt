@@ -1,9 +1,14 @@
 -- What C is told beside the plain struct of an answer: structs for the engine's scenario, doubles, rows, readings and
 -- writings. An enum does not pass, so a refused one is the number with zeros, and an accepted one has the number 0.
+use mathlib.Core.Bool.{cond}
+use mathlib.Core.Option.{Option, none, some}
+use Prim.Native.Nat.{ℕ}
+use lib.Dec.{eqb}
 use lib.Ieee.{Float, binary64, ofBits}
 use Rattle.scenario_theory.specs.declared.Scenario.{Scenario}
 use Rattle.scenario_theory.specs.declared.RowPeriods.{RowPeriods}
 use Rattle.scenario_theory.specs.declared.RowPeriods.the-variants as P
+use Rattle.scenario_theory.specs.Distances.{ruptureNumber, ruptureOf, projectionNumber, projectionOf}
 use Rattle.record_theory.specs.declared.Reading.{Reading}
 use Rattle.record_theory.specs.declared.Reading.the-variants as R
 use Rattle.record_theory.specs.declared.Writing.{Writing}
@@ -11,10 +16,20 @@ use Rattle.record_theory.specs.declared.Writing.the-variants as W
 use Rattle.engine_theory.specs.declared.DoublesAnswer.{DoublesAnswer}
 use Rattle.engine_theory.specs.declared.DoublesAnswer.the-variants as D
 use Rattle.host_theory.specs.declared.HostScenario.{HostScenario}
+use Rattle.host_theory.specs.declared.Flagged.{Flagged}
 use Rattle.host_theory.specs.declared.HostDoubles.{HostDoubles}
 use Rattle.host_theory.specs.declared.HostPeriods.{HostPeriods}
 use Rattle.host_theory.specs.declared.HostReading.{HostReading}
 use Rattle.host_theory.specs.declared.HostWriting.{HostWriting}
+
+-- a distance by its flag and its number (W-202): absent with the flag 0, whatever the number; with any other it stands
+abbrev pub flagged : ℕ → ℕ → Option ℕ
+flagged flag number = cond (eqb flag 0) none (some number)
+
+-- and back: the flag 1 and the number, or zeros
+abbrev pub flaggedOf : Option ℕ → Flagged
+flaggedOf none = record { present = 0; distance = 0 }
+flaggedOf (some number) = record { present = 1; distance = number }
 
 -- document 01, 'The scenario'
 abbrev pub scenarioFrom : HostScenario → Scenario
@@ -22,10 +37,11 @@ scenarioFrom s =
     record {
       model = s .model;
       magnitude = s .magnitude;
-      distance = s .distance;
+      rupture = ruptureOf (flagged (s .«rupture_present») (s .«rupture_distance»));
       velocity = s .velocity;
       mechanism = s .mechanism;
       period = s .period;
+      projection = projectionOf (flagged (s .«projection_present») (s .«projection_distance»));
     }
 
 -- and back
@@ -34,15 +50,28 @@ fieldsOf x =
     record {
       model = x .model;
       magnitude = x .magnitude;
-      distance = x .distance;
+      «rupture_present» = flaggedOf (ruptureNumber (x .rupture)) .present;
+      «rupture_distance» = flaggedOf (ruptureNumber (x .rupture)) .distance;
       velocity = x .velocity;
       mechanism = x .mechanism;
       period = x .period;
+      «projection_present» = flaggedOf (projectionNumber (x .projection)) .present;
+      «projection_distance» = flaggedOf (projectionNumber (x .projection)) .distance;
     }
 
 -- the fields beside a refusal
 abbrev pub noFields : HostScenario
-noFields = record { model = 0; magnitude = 0; distance = 0; velocity = 0; mechanism = 0; period = 0 }
+noFields = record {
+  model = 0;
+  magnitude = 0;
+  «rupture_present» = 0;
+  «rupture_distance» = 0;
+  velocity = 0;
+  mechanism = 0;
+  period = 0;
+  «projection_present» = 0;
+  «projection_distance» = 0;
+}
 
 -- the double 0, whose bits are all 0
 abbrev pub zeroDouble : Float

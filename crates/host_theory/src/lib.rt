@@ -1,17 +1,27 @@
 // What C is told and tells: plain structs, their definitions, what is promised of them, and laws. There is no code.
 
-// The fields of a scenario, whole numbers: magnitude in 0.01, distance in 0.01 km (to the rupture for model 1, Idriss
-// 2014; to its surface projection for model 2, Boore and Atkinson 2008), velocity V_S30 in 0.1 m/s, period in 0.001 s
-// (0, which is peak acceleration, or from 10 to 10000). Mechanism: 0 strike-slip, 1 normal, 2 reverse, 3 reverse
-// oblique, 4 other oblique, 9 unspecified.
+// The fields of a scenario, whole numbers: magnitude in 0.01, distances in 0.01 km, velocity V_S30 in 0.1 m/s, period in
+// 0.001 s (0, which is peak acceleration, or from 10 to 10000). Mechanism: 0 strike-slip, 1 normal, 2 reverse, 3 reverse
+// oblique, 4 other oblique, 9 unspecified. Each model reads its own distance: model 1, Idriss 2014, that to the rupture,
+// model 2, Boore and Atkinson 2008, that to its surface projection; the other may stand. A distance whose flag is 0 is
+// absent, and the number beside it is not looked at; with any other flag it stands.
 #[repr(C)]
 pub struct HostScenario {
     pub model: u8,
     pub magnitude: u16,
-    pub distance: u16,
+    pub rupture_present: u8,
+    pub rupture_distance: u16,
     pub velocity: u16,
     pub mechanism: u8,
     pub period: u16,
+    pub projection_present: u8,
+    pub projection_distance: u16,
+}
+
+// A distance as C has it: its flag, 0 or 1, and its number, 0 where it is absent.
+pub struct Flagged {
+    pub present: u8,
+    pub distance: u16,
 }
 
 // The same with the ends as doubles that equal the whole numbers, still in units of 10^-9.
@@ -35,8 +45,8 @@ pub struct HostPeriods {
     pub upper: u16,
 }
 
-// What is read: number 0, the scenario and how many bytes its record has (the rest of the bytes comes after them); or
-// the number of the refusal, and zeros.
+// What is read: number 0, the scenario, with the flags 0 or 1 and 0 beside an absent distance, and how many bytes its
+// record has (the rest of the bytes comes after them); or the number of the refusal, and zeros.
 #[repr(C)]
 pub struct HostReading {
     pub number: u8,

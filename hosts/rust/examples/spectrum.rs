@@ -2,7 +2,11 @@
 //! 3 km down, at a site 10 km beside it, so that the rupture is 10.44 km away. Below the table stand the answers that
 //! have no row of their own.
 
-use fusnoch::{Scenario, BOORE_ATKINSON, IDRISS};
+use fusnoch::{ProjectionDistance, RuptureDistance, Scenario, BOORE_ATKINSON, IDRISS};
+
+/// The site's distance to the rupture, and to its surface projection.
+const RUPTURE: RuptureDistance = RuptureDistance(1044);
+const PROJECTION: ProjectionDistance = ProjectionDistance(1000);
 
 /// In 0.001 s; 0 is peak acceleration.
 const PERIODS: [u16; 24] = [
@@ -33,18 +37,18 @@ fn cell(scenario: &Scenario) -> String {
     }
 }
 
-fn print_heading(idriss: &Scenario, boore_atkinson: &Scenario) {
+fn print_heading(scenario: &Scenario) {
     let hundredths = |number: u16| format!("{}.{:02}", number / 100, number % 100);
     println!(
         "Spectrum, 5 percent damped: M {}, strike-slip, V_S30 {}.{} m/s",
-        hundredths(idriss.magnitude),
-        idriss.velocity / 10,
-        idriss.velocity % 10
+        hundredths(scenario.magnitude),
+        scenario.velocity / 10,
+        scenario.velocity % 10
     );
     println!(
         "Idriss 2014 at {} km from the rupture, Boore and Atkinson 2008 at {} km from its surface projection",
-        hundredths(idriss.distance),
-        hundredths(boore_atkinson.distance)
+        hundredths(RUPTURE.0),
+        hundredths(PROJECTION.0)
     );
     println!("median, sigma: ends in units of 10^-9; they enclose the natural logarithm of the median in g, and sigma");
     println!("g, rounded: exp of the middle of the median's ends, to four digits, for reading; it is not enclosed\n");
@@ -69,16 +73,23 @@ fn print_between() {
 }
 
 fn main() {
-    // Each model has its own distance: to the rupture, and to its surface projection.
-    let idriss = Scenario { model: IDRISS, magnitude: 700, distance: 1044, velocity: 7600, mechanism: 0, period: 0 };
-    let boore_atkinson = Scenario { model: BOORE_ATKINSON, distance: 1000, ..idriss };
-    print_heading(&idriss, &boore_atkinson);
+    // The earthquake at the site, with both distances: each model reads its own.
+    let scenario = Scenario {
+        model: IDRISS,
+        magnitude: 700,
+        rupture_distance: Some(RUPTURE),
+        velocity: 7600,
+        mechanism: 0,
+        period: 0,
+        projection_distance: Some(PROJECTION),
+    };
+    print_heading(&scenario);
     for period in PERIODS {
         let name = match period {
             0 => String::from("PGA"),
             _ => format!("{}.{:03}", period / 1000, period % 1000),
         };
-        let cells = [idriss, boore_atkinson].map(|scenario| cell(&Scenario { period, ..scenario }));
+        let cells = MODELS.map(|(model, _)| cell(&Scenario { model, period, ..scenario }));
         println!("{:>8} | {:58} | {}", name, cells[0], cells[1]);
     }
     print_between();

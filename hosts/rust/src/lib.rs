@@ -5,22 +5,36 @@ use std::fmt;
 pub const IDRISS: u8 = 1;
 pub const BOORE_ATKINSON: u8 = 2;
 
-/// The fields of a scenario, whole numbers in the units named here.
-#[repr(C)]
-#[derive(Clone, Copy, Debug, PartialEq, Eq)]
+/// The distance to the rupture, in 0.01 km.
+#[derive(Clone, Copy, Debug, PartialEq, Eq, PartialOrd, Ord, Hash)]
+pub struct RuptureDistance(pub u16);
+
+/// The distance to the surface projection of the rupture, in 0.01 km. It is not taken for that to the rupture:
+///
+/// ```compile_fail,E0308
+/// let distance: fusnoch::RuptureDistance = fusnoch::ProjectionDistance(1000);
+/// ```
+#[derive(Clone, Copy, Debug, PartialEq, Eq, PartialOrd, Ord, Hash)]
+pub struct ProjectionDistance(pub u16);
+
+/// The fields of a scenario, whole numbers in the units named here. Of the two distances a model reads its own, and
+/// the other may be absent.
+#[derive(Clone, Copy, Debug, PartialEq, Eq, Hash)]
 pub struct Scenario {
     /// 1 Idriss, 2 Boore-Atkinson
     pub model: u8,
     /// 0.01
     pub magnitude: u16,
-    /// 0.01 km, to the rupture (Idriss) or to its surface projection (Boore-Atkinson)
-    pub distance: u16,
+    /// to the rupture; Idriss reads it
+    pub rupture_distance: Option<RuptureDistance>,
     /// V_S30, 0.1 m/s
     pub velocity: u16,
     /// 0 strike-slip, 1 normal, 2 reverse, 3 reverse oblique, 4 other oblique, 9 unspecified
     pub mechanism: u8,
     /// 0.001 s; 0 is peak acceleration
     pub period: u16,
+    /// to its surface projection; Boore-Atkinson reads it
+    pub projection_distance: Option<ProjectionDistance>,
 }
 
 /// Ends of the natural logarithm of the median in g and of sigma, in units of 10^-9: whole numbers or doubles.
@@ -60,11 +74,11 @@ impl fmt::Display for Rows {
     }
 }
 
-/// The number of a refusal, 1 to 12; shown, it is the words for it.
+/// The number of a refusal, 1 to 13; shown, it is the words for it.
 #[derive(Clone, Copy, Debug, PartialEq, Eq)]
 pub struct Refusal(pub u8);
 
-const WORDS: [&str; 13] = [
+const WORDS: [&str; 14] = [
     "not a refusal",
     "model: neither 1 nor 2",
     "magnitude: beyond the model's limits",
@@ -73,11 +87,12 @@ const WORDS: [&str; 13] = [
     "mechanism: not a code of the model",
     "period: neither 0 nor from 10 to 10000",
     "cut short: no map byte, or fewer bytes than the map calls for",
-    "spare bit: bit 6 or 7 stands",
-    "wanting: bit 0, 1 or 2 is clear",
+    "spare bit: bit 7 stands",
+    "wanting: bit 0 or 1 is clear, or the distance that the model reads is absent",
     "blank: no bit stands",
     "plain default: a field written with its absent number",
     "page full: lent bytes shorter than the record",
+    "distances: the projection distance exceeds the rupture distance",
 ];
 
 impl fmt::Display for Refusal {
@@ -90,7 +105,51 @@ impl std::error::Error for Refusal {}
 
 /// The functions of fusnoch.h.
 mod raw {
-    use super::{Enclosure, Rows, Scenario};
+    use super::{Enclosure, ProjectionDistance, Rows, RuptureDistance};
+
+    /// A distance whose flag is 0 is absent, whatever its number.
+    #[repr(C)]
+    pub struct Scenario {
+        pub model: u8,
+        pub magnitude: u16,
+        pub rupture_present: u8,
+        pub rupture_distance: u16,
+        pub velocity: u16,
+        pub mechanism: u8,
+        pub period: u16,
+        pub projection_present: u8,
+        pub projection_distance: u16,
+    }
+
+    impl From<&super::Scenario> for Scenario {
+        fn from(s: &super::Scenario) -> Self {
+            Scenario {
+                model: s.model,
+                magnitude: s.magnitude,
+                rupture_present: s.rupture_distance.is_some().into(),
+                rupture_distance: s.rupture_distance.map_or(0, |distance| distance.0),
+                velocity: s.velocity,
+                mechanism: s.mechanism,
+                period: s.period,
+                projection_present: s.projection_distance.is_some().into(),
+                projection_distance: s.projection_distance.map_or(0, |distance| distance.0),
+            }
+        }
+    }
+
+    impl From<Scenario> for super::Scenario {
+        fn from(s: Scenario) -> Self {
+            super::Scenario {
+                model: s.model,
+                magnitude: s.magnitude,
+                rupture_distance: (s.rupture_present != 0).then_some(RuptureDistance(s.rupture_distance)),
+                velocity: s.velocity,
+                mechanism: s.mechanism,
+                period: s.period,
+                projection_distance: (s.projection_present != 0).then_some(ProjectionDistance(s.projection_distance)),
+            }
+        }
+    }
 
     #[repr(C)]
     pub struct Answer<End> {
@@ -141,7 +200,7 @@ fn unless_refused<T>(number: u8, result: T) -> Result<T, Refusal> {
 
 /// The refusal of a scenario, without answering it.
 pub fn check(scenario: &Scenario) -> Result<(), Refusal> {
-    unless_refused(unsafe { raw::fusnoch_refusal(*scenario) }, ())
+    unless_refused(unsafe { raw::fusnoch_refusal(scenario.into()) }, ())
 }
 
 /// The rows that the median of a model at a period rests on, and the sigma of Boore-Atkinson.
@@ -161,7 +220,7 @@ pub fn rows_words(model: u8, period: u16) -> String {
 }
 
 pub fn answer(scenario: &Scenario) -> Result<Enclosure, Refusal> {
-    let answer = unsafe { raw::fusnoch_answer_fields(*scenario) };
+    let answer = unsafe { raw::fusnoch_answer_fields(scenario.into()) };
     unless_refused(answer.number, answer.ends)
 }
 
@@ -172,7 +231,7 @@ pub fn answer_record(bytes: &[u8]) -> Result<Enclosure, Refusal> {
 
 /// The ends as doubles that equal the whole numbers.
 pub fn answer_in_doubles(scenario: &Scenario) -> Result<Enclosure<f64>, Refusal> {
-    let answer = unsafe { raw::fusnoch_answer_fields_in_doubles(*scenario) };
+    let answer = unsafe { raw::fusnoch_answer_fields_in_doubles(scenario.into()) };
     unless_refused(answer.number, answer.ends)
 }
 
@@ -185,11 +244,11 @@ pub fn answer_record_in_doubles(bytes: &[u8]) -> Result<Enclosure<f64>, Refusal>
 pub fn read(bytes: &[u8]) -> Result<(Scenario, &[u8]), Refusal> {
     let reading = unsafe { raw::fusnoch_read(bytes.as_ptr(), bytes.len()) };
     unless_refused(reading.number, ())?;
-    Ok((reading.scenario, &bytes[reading.length..]))
+    Ok((reading.scenario.into(), &bytes[reading.length..]))
 }
 
 /// Puts the record at the front of the lent bytes and returns its length; refused, it leaves them as they are.
 pub fn write(scenario: &Scenario, lent: &mut [u8]) -> Result<usize, Refusal> {
-    let writing = unsafe { raw::fusnoch_write(*scenario, lent.as_mut_ptr(), lent.len()) };
+    let writing = unsafe { raw::fusnoch_write(scenario.into(), lent.as_mut_ptr(), lent.len()) };
     unless_refused(writing.number, writing.length)
 }

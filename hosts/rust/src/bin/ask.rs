@@ -5,7 +5,7 @@ use std::fmt::Display;
 use std::io::{self, BufRead, Write};
 use std::process::ExitCode;
 
-use fusnoch::{Enclosure, Refusal, Rows, Scenario};
+use fusnoch::{Enclosure, ProjectionDistance, Refusal, Rows, RuptureDistance, Scenario};
 
 fn take_bytes(text: &str) -> Option<Box<[u8]>> {
     if text == "-" {
@@ -17,16 +17,25 @@ fn take_bytes(text: &str) -> Option<Box<[u8]>> {
     (0..text.len()).step_by(2).map(|place| u8::from_str_radix(&text[place..place + 2], 16).ok()).collect()
 }
 
+/// A distance, or - where it is absent.
+fn take_distance(word: &str) -> Option<Option<u16>> {
+    match word {
+        "-" => Some(None),
+        _ => Some(Some(word.parse().ok()?)),
+    }
+}
+
 /// A number that does not fit its field is no scenario.
 fn take_scenario(words: &[&str]) -> Option<Scenario> {
     match words {
-        [model, magnitude, distance, velocity, mechanism, period] => Some(Scenario {
+        [model, magnitude, rupture, velocity, mechanism, period, projection] => Some(Scenario {
             model: model.parse().ok()?,
             magnitude: magnitude.parse().ok()?,
-            distance: distance.parse().ok()?,
+            rupture_distance: take_distance(rupture)?.map(RuptureDistance),
             velocity: velocity.parse().ok()?,
             mechanism: mechanism.parse().ok()?,
             period: period.parse().ok()?,
+            projection_distance: take_distance(projection)?.map(ProjectionDistance),
         }),
         _ => None,
     }
@@ -37,6 +46,10 @@ fn show_bytes(bytes: &[u8]) -> String {
         [] => String::from("-"),
         _ => bytes.iter().map(|byte| format!("{:02x}", byte)).collect(),
     }
+}
+
+fn show_distance(distance: Option<u16>) -> String {
+    distance.map_or(String::from("-"), |distance| distance.to_string())
 }
 
 /// A double that is whole is shown without a point.
@@ -57,13 +70,14 @@ fn show_rows(rows: Result<Rows, Refusal>) -> String {
 fn show_reading(bytes: &[u8]) -> String {
     match fusnoch::read(bytes) {
         Ok((s, rest)) => format!(
-            "E {} {} {} {} {} {} {} {}",
+            "E {} {} {} {} {} {} {} {} {}",
             s.model,
             s.magnitude,
-            s.distance,
+            show_distance(s.rupture_distance.map(|distance| distance.0)),
             s.velocity,
             s.mechanism,
             s.period,
+            show_distance(s.projection_distance.map(|distance| distance.0)),
             bytes.len() - rest.len(),
             show_bytes(rest)
         ),
@@ -84,7 +98,15 @@ fn number<T>(result: Result<T, Refusal>) -> u8 {
 
 /// The numbers of reading, answering from a record in both ways, and writing, with no bytes.
 fn show_null(none: &mut [u8]) -> String {
-    let accepted = Scenario { model: 1, magnitude: 700, distance: 1000, velocity: 7600, mechanism: 2, period: 75 };
+    let accepted = Scenario {
+        model: fusnoch::IDRISS,
+        magnitude: 700,
+        rupture_distance: Some(RuptureDistance(1000)),
+        velocity: 7600,
+        mechanism: 2,
+        period: 75,
+        projection_distance: None,
+    };
     let read = number(fusnoch::read(none));
     let answered = number(fusnoch::answer_record(none));
     let in_doubles = number(fusnoch::answer_record_in_doubles(none));
