@@ -6,8 +6,10 @@ use borrow.Author.Tests.{eqb-true, leb-false}
 use lib.Dec.{eqb, leb}
 use Rattle.scenario_theory.specs.declared.Scenario.{Scenario}
 use Rattle.scenario_theory.specs.Rows.{rowCount}
-use Rattle.scenario_theory.specs.Refusal.{refusalOf}
-use Rattle.probes.specs.Probe.{isTaken}
+use Rattle.scenario_theory.specs.Refusal.{idriss, booreAtkinson, refusalByModel, refusalOf}
+use Rattle.scenario_theory.specs.Accepted.{Within}
+use Rattle.scenario_theory.proofs.RefusalLaws.{within-at, none-applies}
+use Rattle.probes.specs.Probe.{idrissScenario, booreAtkinsonScenario, isTaken}
 
 pub record Taken (k : ℕ) (s : Scenario) : Type 0 where
   pub row : k < rowCount
@@ -21,3 +23,15 @@ taken k s says e = go (leb rowCount k) refl (sym says ∙ e)
     go : (b : Bool) → leb rowCount k ≡ b → cond b false (eqb (refusalOf s) 0) ≡ true → Taken k s
     go true p e = absurd (false≢true e)
     go false p e = record { row = leb-false rowCount k p; accepted = eqb-true (refusalOf s) 0 e }
+
+-- a scenario of one distance that is accepted is within the limits of its model
+module _ {M R Vs mechanism T : ℕ} where
+  pub takes-idriss : refusalOf (idrissScenario M R Vs mechanism T) ≡ 0 → Within idriss M R Vs mechanism T
+  unfolding refusalByModel
+  takes-idriss e = let s = idrissScenario M R Vs mechanism T in within-at idriss s refl (none-applies s e .others)
+
+  pub takes-boore-atkinson : refusalOf (booreAtkinsonScenario M R Vs mechanism T) ≡ 0 →
+      Within booreAtkinson M R Vs mechanism T
+  unfolding refusalByModel
+  takes-boore-atkinson e =
+      let s = booreAtkinsonScenario M R Vs mechanism T in within-at booreAtkinson s refl (none-applies s e .others)

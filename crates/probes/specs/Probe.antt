@@ -8,10 +8,13 @@ use Rattle.interval_theory.specs.declared.SignedEnds.{SignedEnds}
 use Rattle.logarithm_theory.specs.Evaluation.{lnOf, rootOf}
 use Rattle.scenario_theory.specs.declared.Scenario.{Scenario}
 use Rattle.scenario_theory.specs.declared.Place.the-variants as P
-use Rattle.scenario_theory.specs.declared.Check.{Check}
-use Rattle.scenario_theory.specs.declared.Check.the-variants as C
+use Rattle.scenario_theory.specs.declared.PlaceCheck.{PlaceCheck}
+use Rattle.scenario_theory.specs.declared.PlaceCheck.the-variants as C
+use Rattle.scenario_theory.specs.declared.Rupture.the-variants as R
+use Rattle.scenario_theory.specs.declared.Projection.the-variants as Q
 use Rattle.scenario_theory.specs.Refusal.{refusalOf}
-use Rattle.scenario_theory.specs.Rows.{rowCount, idrissPlace, booreAtkinsonPlace, scenarioWith}
+use Rattle.scenario_theory.specs.Rows.{rowCount, idrissPlace, booreAtkinsonPlace}
+use Rattle.scenario_theory.specs.Accepted.{scenarioWith}
 use Rattle.idriss_theory.specs.Rows.{rowAt}
 use Rattle.idriss_theory.specs.Evaluation.{medianOf, sigmaOf}
 use Rattle.boore_atkinson_theory.specs.Rows as rows
@@ -43,6 +46,13 @@ noEnds = record { low = pos 1; high = pos 0 }
 abbrev pub told : SignedEnds → ProbedEnds
 told e = record { low = e .low; high = e .high }
 
+-- scenarios of each model that have its own distance alone: magnitude, distance, velocity, mechanism and period
+abbrev pub idrissScenario : ℕ → ℕ → ℕ → ℕ → ℕ → Scenario
+idrissScenario M d Vs mechanism T = scenarioWith 1 M (R.At (record { 0 = d })) Vs mechanism T Q.Absent
+
+abbrev pub booreAtkinsonScenario : ℕ → ℕ → ℕ → ℕ → ℕ → Scenario
+booreAtkinsonScenario M d Vs mechanism T = scenarioWith 2 M R.Absent Vs mechanism T (Q.At (record { 0 = d }))
+
 -- k is a row, and s is accepted
 unfoldable pub isTaken : ℕ → Scenario → Bool
 isTaken k s = cond (leb rowCount k) false (eqb (refusalOf s) 0)
@@ -53,28 +63,28 @@ whereTaken k s e = cond (isTaken k s) (told e) noEnds
 
 unfoldable pub probedIdriss : ℕ → ℕ → ℕ → ℕ → ℕ → ℕ → ProbedEnds
 probedIdriss table k m d v mechanism =
-    whereTaken k (scenarioWith 1 m d v mechanism 0) (medianOf (rowAt (eqb table 3) k) m d v mechanism)
+    whereTaken k (idrissScenario m d v mechanism 0) (medianOf (rowAt (eqb table 3) k) m d v mechanism)
 
 unfoldable pub probedIdrissSigma : ℕ → ℕ → ProbedEnds
-probedIdrissSigma period m = whereTaken 0 (scenarioWith 1 m 0 7_600 0 period) (sigmaOf period m)
+probedIdrissSigma period m = whereTaken 0 (idrissScenario m 0 7_600 0 period) (sigmaOf period m)
 
 unfoldable pub probedBooreAtkinson : ℕ → ℕ → ℕ → ℕ → ℕ → ProbedEnds
 probedBooreAtkinson k m d v mechanism =
-    whereTaken k (scenarioWith 2 m d v mechanism 0) (second.medianOf (rows.rowAt k) m d v mechanism)
+    whereTaken k (booreAtkinsonScenario m d v mechanism 0) (second.medianOf (rows.rowAt k) m d v mechanism)
 
 unfoldable pub probedBooreAtkinsonSigma : ℕ → ℕ → ProbedEnds
 probedBooreAtkinsonSigma k mechanism =
-    whereTaken k (scenarioWith 2 700 0 7_600 mechanism 0) (second.sigmaOf (rows.totalAt k) mechanism)
+    whereTaken k (booreAtkinsonScenario 700 0 7_600 mechanism 0) (second.sigmaOf (rows.totalAt k) mechanism)
 
 unfoldable pub probedNonlinear : ℕ → ℕ → ℕ → ℕ → ProbedEnds
 probedNonlinear k v low high =
     cond (ltb high low) noEnds
-    (whereTaken k (scenarioWith 2 700 0 v 0 0)
+    (whereTaken k (booreAtkinsonScenario 700 0 v 0 0)
     (second.nonlinearEndsOf (rows.rowAt k .site) v (record { low = low; high = high })))
 
 -- ---- where a period stands
 
-abbrev pub toldPlace : Check → ProbedPlace
+abbrev pub toldPlace : PlaceCheck → ProbedPlace
 toldPlace (C.Accepted (P.Row k)) = record { kind = 0; row = k }
 toldPlace (C.Accepted (P.Between k)) = record { kind = 1; row = k }
 toldPlace (C.Refused k) = record { kind = 2; row = 0 }

@@ -4,16 +4,22 @@ ghost use Prim.Native.Nat.{_^_, _<_};
 ghost use lib.ListN.{length, getD};
 ghost use Rattle.interval_theory.specs.Signed.{SmallerThan};
 ghost use Rattle.scenario_theory.specs.Refusal.{idriss};
-ghost use Rattle.scenario_theory.specs.Rows.{idrissRow, scenarioWith, placeBy};
+ghost use Rattle.scenario_theory.specs.Rows.{idrissRow, placeBy};
 ghost use Rattle.record_theory.specs.Outcome.{restOf};
 ghost use Rattle.idriss_theory.specs.Tables.{takesTable3};
 ghost use Rattle.idriss_theory.specs.Evaluation.{sigmaOf};
-ghost use Rattle.probes.specs.Probe.{isTaken, probedLn, probedRoot, noEnds, told, probedIdriss};
+ghost use Rattle.probes.specs.Probe.{idrissScenario, booreAtkinsonScenario, isTaken, probedLn, probedRoot, noEnds, told, probedIdriss};
 ghost use Rattle.probes.specs.Probe.{probedIdrissSigma, probedBooreAtkinson, probedBooreAtkinsonSigma};
 ghost use Rattle.probes.specs.Probe.{probedNonlinear, toldPlace, probedPlace};
 use interval_theory::SignedEnds;
+use scenario_theory::Basis;
 use scenario_theory::Check;
 use scenario_theory::Place;
+use scenario_theory::PlaceCheck;
+use scenario_theory::Projection;
+use scenario_theory::ProjectionDistance;
+use scenario_theory::Rupture;
+use scenario_theory::RuptureDistance;
 use scenario_theory::Scenario;
 
 // The ends of a logarithm. Where there are none, low is 1 and high 0.
@@ -68,15 +74,15 @@ pub extern "C" fn probe_root(x: u64) -> u64
     logarithm::root(x)
 }
 
-fn tell_place(c: Check) -> ProbedPlace
+fn tell_place(c: PlaceCheck) -> ProbedPlace
     ensures { λ r. ⌜ r ≡ toldPlace c ⌝ }
 {
     match c {
-        Check::Accepted(p) => match p {
+        PlaceCheck::Accepted(p) => match p {
             Place::Row(row) => ProbedPlace { kind: 0, row },
             Place::Between(row) => ProbedPlace { kind: 1, row },
         },
-        Check::Refused(_) => ProbedPlace { kind: 2, row: 0 },
+        PlaceCheck::Refused(_) => ProbedPlace { kind: 2, row: 0 },
     }
 }
 
@@ -132,30 +138,62 @@ fn tell(e: SignedEnds) -> ProbedEnds
     }
 }
 
-// Whether k is a row and a scenario of these fields is accepted.
-fn taken(
-    k: usize,
-    model: u8,
-    magnitude: u16,
-    distance: u16,
-    velocity: u16,
-    mechanism: u8,
-    period: u16,
-) -> bool
-    ensures { λ r. ⌜ r ≡ isTaken k (scenarioWith model magnitude distance velocity mechanism period) ⌝ }
+// Whether k is a row and s is accepted.
+fn taken(k: usize, s: Scenario) -> bool
+    ensures { λ r. ⌜ r ≡ isTaken k s ⌝ }
 {
     if 22 <= k {
         return false;
     }
-    let s = Scenario {
-        model,
-        magnitude,
-        distance,
-        velocity,
-        mechanism,
-        period,
-    };
     scenario::refusal(s) == 0
+}
+
+// The same of a scenario by Idriss that has these fields.
+fn idriss_takes(
+    k: usize,
+    magnitude: u16,
+    distance: RuptureDistance,
+    velocity: u16,
+    mechanism: u8,
+) -> bool
+    ensures { λ r. ⌜ r ≡ isTaken k (idrissScenario magnitude (distance .0) velocity mechanism 0) ⌝ }
+{
+    taken(
+        k,
+        Scenario {
+            model: 1,
+            magnitude,
+            rupture: Rupture::At(distance),
+            velocity,
+            mechanism,
+            period: 0,
+            projection: Projection::Absent,
+        },
+    )
+}
+
+// And of one by Boore and Atkinson.
+fn boore_atkinson_takes(
+    k: usize,
+    magnitude: u16,
+    distance: ProjectionDistance,
+    velocity: u16,
+    mechanism: u8,
+) -> bool
+    ensures { λ r. ⌜ r ≡ isTaken k (booreAtkinsonScenario magnitude (distance .0) velocity mechanism 0) ⌝ }
+{
+    taken(
+        k,
+        Scenario {
+            model: 2,
+            magnitude,
+            rupture: Rupture::Absent,
+            velocity,
+            mechanism,
+            period: 0,
+            projection: Projection::At(distance),
+        },
+    )
 }
 
 // Which of Idriss's tables a magnitude takes: 1 for Table 3, 0 for Table 2.
@@ -178,12 +216,13 @@ pub extern "C" fn probe_idriss(
 ) -> ProbedEnds
     ensures { λ r. ⌜ r ≡ probedIdriss table k magnitude «rupture_distance» velocity mechanism ⌝ }
 {
-    if taken(k, 1, magnitude, rupture_distance, velocity, mechanism, 0) {
+    let distance = RuptureDistance(rupture_distance);
+    if idriss_takes(k, magnitude, distance, velocity, mechanism) {
         return tell(idriss::median(
             table == 3,
             k,
             magnitude,
-            rupture_distance,
+            distance,
             velocity,
             mechanism,
         ));
@@ -207,8 +246,13 @@ fn idriss_sigma(p: Place, period: u16, magnitude: u16) -> SignedEnds
 pub extern "C" fn probe_idriss_sigma(period: u16, magnitude: u16) -> ProbedEnds
     ensures { λ r. ⌜ r ≡ probedIdrissSigma period magnitude ⌝ }
 {
-    match scenario::check(1, magnitude, 0, 7_600, 0, period) {
-        Check::Accepted(p) => tell(idriss_sigma(p, period, magnitude)),
+    let rupture = Rupture::At(RuptureDistance(0));
+    let projection = Projection::Absent;
+    match scenario::check(1, magnitude, rupture, 7_600, 0, period, projection) {
+        Check::Accepted(basis) => match basis {
+            Basis::Idriss(_, p) => tell(idriss_sigma(p, period, magnitude)),
+            Basis::BooreAtkinson(_, _) => none(),
+        },
         Check::Refused(_) => none(),
     }
 }
@@ -224,8 +268,9 @@ pub extern "C" fn probe_boore_atkinson(
 ) -> ProbedEnds
     ensures { λ r. ⌜ r ≡ probedBooreAtkinson k magnitude «projection_distance» velocity mechanism ⌝ }
 {
-    if taken(k, 2, magnitude, projection_distance, velocity, mechanism, 0) {
-        return tell(boore_atkinson::median(k, magnitude, projection_distance, velocity, mechanism));
+    let distance = ProjectionDistance(projection_distance);
+    if boore_atkinson_takes(k, magnitude, distance, velocity, mechanism) {
+        return tell(boore_atkinson::median(k, magnitude, distance, velocity, mechanism));
     }
     none()
 }
@@ -235,7 +280,7 @@ pub extern "C" fn probe_boore_atkinson(
 pub extern "C" fn probe_boore_atkinson_sigma(k: usize, mechanism: u8) -> ProbedEnds
     ensures { λ r. ⌜ r ≡ probedBooreAtkinsonSigma k mechanism ⌝ }
 {
-    if taken(k, 2, 700, 0, 7_600, mechanism, 0) {
+    if boore_atkinson_takes(k, 700, ProjectionDistance(0), 7_600, mechanism) {
         return tell(boore_atkinson_sigma::sigma(k, mechanism));
     }
     none()
@@ -249,7 +294,7 @@ pub extern "C" fn probe_nonlinear(k: usize, velocity: u16, low: u64, high: u64) 
     if high < low {
         return none();
     }
-    if taken(k, 2, 700, 0, velocity, 0, 0) {
+    if boore_atkinson_takes(k, 700, ProjectionDistance(0), velocity, 0) {
         return tell(boore_atkinson::nonlinear(k, velocity, interval_theory::Ends { low, high }));
     }
     none()
