@@ -26,7 +26,9 @@ ENDS = FRACTION + ' ' + FRACTION
 LN = re.compile(r'pairAt ([\d_]+) \(ln ([\d_]+) ([\d_]+)\) ' + ENDS)
 ROOT = re.compile(r'pairAt ([\d_]+) \(root ([\d_]+)\) ' + ENDS)
 NUMBERS = r'\(((?:\w+ ∷ )+)\[\]\)'
-READS = re.compile('reads ' + NUMBERS + ' ' + NUMBERS)
+# The fields of a scenario, in the record's order; an absent distance has no number.
+FIELDS = r'\(((?:(?:some [\d_]+|none) ∷ )+)\[\]\)'
+READS = re.compile('reads ' + NUMBERS + ' ' + FIELDS)
 VALUE = r'\((pos|neg) ([\d_]+) over ([\d_]+)\)'
 LN_EVERY = re.compile(r'atEvery \(ln ([\d_]+) ([\d_]+)\) ' + VALUE)
 SLOPE = re.compile(r'atEvery \(bnl \(booreAtkinson.rowFor ([\d_]+) \.site\) ([\d_]+)\) ' + VALUE)
@@ -34,7 +36,7 @@ PART = re.compile(r'fraction \((alphaPart|betaFactor) \(idriss.rowFor ([\d_]+) (
                   r'\(pos ([\d_]+) over 100\)\) ' + VALUE)
 
 CUT = r'cutAt ([\d_]+) \((.*)\) \((pos|neg) ([\d_]+)\) \((pos|neg) ([\d_]+)\)'
-CUT_SCENARIO = re.compile(CUT.replace('(.*)', r'(median|sigma) \(scenarioOf \(map some ' + NUMBERS + r'\)\)'))
+CUT_SCENARIO = re.compile(CUT.replace('(.*)', r'(median|sigma) \(scenarioOf ' + FIELDS + r'\)'))
 SITE = r'bnl \(rowFor ([\d_]+) \.site\) ([\d_]+)'
 CUT_SLOPE = re.compile(CUT.replace('(.*)', SITE))
 CUT_NONLINEAR = re.compile(CUT.replace('(.*)', r'nonlinearPart \(' + SITE + r'\) \(stated ' + VALUE + r'\)'))
@@ -111,11 +113,16 @@ def part_holds(match):
     return part(table_of(table_magnitude), row, magnitude) == stated_value(*match.groups()[4:])
 
 
+def fields_of(text):
+    """Return the numbers of fields, None for one that is absent."""
+    return [None if word == 'none' else whole(word.removeprefix('some ')) for word in text.split(' ∷ ')[:-1]]
+
+
 def reads_holds(match):
     """Say whether bytes are read as the fields that a row states."""
-    record, fields = ([int(number, 0) for number in group.split(' ∷ ')[:-1]] for group in match.groups())
+    record = [int(number, 0) for number in match.group(1).split(' ∷ ')[:-1]]
     kind, *values = read(bytes(record))
-    return kind == 'E' and [*values[0], values[1]] == fields
+    return kind == 'E' and [*values[0], values[1]] == fields_of(match.group(2))
 
 
 def whole(word):
@@ -132,7 +139,7 @@ def cut_holds(match, pair):
 
 def scenario_holds(match):
     """Say whether the pair of a scenario's median or sigma is what a row states."""
-    scenario = Scenario(*map(whole, match.group(3).split(' ∷ ')[:-1]))
+    scenario = Scenario(*fields_of(match.group(3)))
     formula = {('median', IDRISS): idriss_median, ('sigma', IDRISS): idriss_sigma,
                ('sigma', BOORE_ATKINSON): boore_atkinson_sigma}[match.group(2), scenario.model]
     return cut_holds(match, formula(EXACT, scenario, whole(match.group(1))))

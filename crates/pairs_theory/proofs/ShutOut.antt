@@ -20,7 +20,7 @@ use Rattle.exact_theory.proofs.FractionLaws.{over-Is, le-as, ≤q-trans}
 use Rattle.exact_theory.proofs.DefinedTest.{sound}
 use Rattle.exact_theory.proofs.Coarse.{gap, negated, coarse, coarse-holds}
 use Rattle.scenario_theory.specs.declared.Scenario.{Scenario}
-use Rattle.scenario_theory.specs.Refusal.{beyondPeriods, refusalBy, refusalOf}
+use Rattle.scenario_theory.specs.Refusal.{beyondPeriods, refusalBy, refusalByModel, lacksDistance, projectionExceeds, refusalOf}
 use Rattle.idriss_theory.specs.Tables.{takesTable3, rowIn}
 use Rattle.idriss_theory.specs.Median.{alphaPart, betaFactor, F, median as idrissMedian}
 use Rattle.boore_atkinson_theory.specs.Tables.{rowFor as secondRowFor}
@@ -75,7 +75,7 @@ unfolding units median idrissMedian rowIn takesTable3 alphaPart betaFactor F eva
 idriss-far = tt
 
 idriss-apart : NoSharedAnswer idrissStrong idrissWeak
-unfolding medianWidth up down refusalOf refusalBy beyondPeriods
+unfolding medianWidth up down refusalOf lacksDistance projectionExceeds refusalByModel refusalBy beyondPeriods
 idriss-apart =
     let t = both (leQ (units (pos 0)) (eval 1 (median idrissStrong) .low)) _ idriss-far in
     no-shared-answer idrissStrong idrissWeak (pos 0) (neg 1_000_000_000) refl refl
@@ -107,7 +107,7 @@ unfolding far units median booreAtkinson.median booreAtkinson.p rock.onRock rock
 booreAtkinson-far = tt
 
 booreAtkinson-apart : NoSharedAnswer booreAtkinsonStrong booreAtkinsonWeak
-unfolding medianWidth up down refusalOf refusalBy beyondPeriods
+unfolding medianWidth up down refusalOf lacksDistance projectionExceeds refusalByModel refusalBy beyondPeriods
 booreAtkinson-apart =
     no-shared-answer booreAtkinsonStrong booreAtkinsonWeak (neg 4_000_000_000) (neg 9_000_000_000) refl refl
     (far-shows (median booreAtkinsonStrong) (median booreAtkinsonWeak) _ _ booreAtkinson-far) (omega arith)

@@ -1,6 +1,6 @@
 -- Every row of the table of values holds: one test that antt computes over the table, and one lemma that turns it into
 -- each row's fact.
-use mathlib.Core.Path.{_≡_, refl}
+use mathlib.Core.Path.{_≡_, refl, ap}
 use mathlib.Core.Bool.{Bool, true, false, not, _&&_}
 use mathlib.Core.List.{List, [], _∷_}
 use mathlib.Core.Option.{Option, none, some}
@@ -13,7 +13,7 @@ use Rattle.exact_theory.specs.Logarithm.{harmonic, lowerSum, upperSum, lnPair}
 use Rattle.exact_theory.specs.Root.{greatest, wholeRoot, rootValues, rootPair}
 use Rattle.exact_theory.specs.Formula.{Formula, eval, Defined}
 use Rattle.exact_theory.proofs.DefinedTest.{sound, defined}
-use Rattle.scenario_theory.specs.Refusal.{beyondPeriods, refusalBy, refusalOf}
+use Rattle.scenario_theory.specs.Refusal.{beyondPeriods, refusalBy, refusalByModel, lacksDistance, projectionExceeds, refusalOf}
 use Rattle.record_theory.specs.Layout.{sizeOf, numbersOf, absentWritten}
 use Rattle.record_theory.specs.Outcome.{readingNumber, readingValues, scenarioIn, lengthBy, mapRefusal, readRefusal}
 use Rattle.record_theory.specs.Outcome.{readOf}
@@ -28,11 +28,17 @@ use Rattle.values_theory.proofs.Constant.{lnConstant, constant}
 
 -- ---- the test of a row
 
-unfoldable pub sameList : List ℕ → List ℕ → Bool
+unfoldable pub sameValue : Option ℕ → Option ℕ → Bool
+sameValue none none = true
+sameValue none (some y) = false
+sameValue (some x) none = false
+sameValue (some x) (some y) = eqb x y
+
+unfoldable pub sameList : List (Option ℕ) → List (Option ℕ) → Bool
 sameList [] [] = true
 sameList [] (y ∷ ys) = false
 sameList (x ∷ xs) [] = false
-sameList (x ∷ xs) (y ∷ ys) = eqb x y && sameList xs ys
+sameList (x ∷ xs) (y ∷ ys) = sameValue x y && sameList xs ys
 
 -- a number is found, and it is x
 unfoldable pub matches : {e : Formula} → Option (Constant e) → Fraction → Bool
@@ -52,12 +58,19 @@ passes (reads s xs) = eqb (readingNumber (readOf s)) 0 && sameList (readingValue
 
 -- ---- and what it shows
 
-same-list : (xs ys : List ℕ) → T (sameList xs ys) → xs ≡ ys
+same-value : (x y : Option ℕ) → T (sameValue x y) → x ≡ y
+unfolding sameValue
+same-value none none t = refl
+same-value none (some y) t = absurd t
+same-value (some x) none t = absurd t
+same-value (some x) (some y) t = ap some (eqb→eq x y t)
+
+same-list : (xs ys : List (Option ℕ)) → T (sameList xs ys) → xs ≡ ys
 unfolding sameList
 same-list [] [] t = refl
 same-list [] (y ∷ ys) t = absurd t
 same-list (x ∷ xs) [] t = absurd t
-same-list (x ∷ xs) (y ∷ ys) t = search (and-left, and-right, eqb→eq, same-list xs ys)
+same-list (x ∷ xs) (y ∷ ys) t = search (and-left, and-right, same-value, same-list xs ys)
 
 is-cut : (x : Fraction) (z : ℤ) → T (cutTo x z) → CutTo x z
 unfolding cutTo
@@ -81,9 +94,9 @@ holds (reads s xs) t = search (and-left, and-right, eqb→eq, same-list)
 
 all-pass : T (every (λ k c. passes c) 0 values)
 unfolding passes matches constant lnConstant when merged zeroOver positive rowIn secondRowFor takesTable3 bnl
-    alphaPart betaFactor _-q_ _*q_ sound same sameList eval lnPair lowerSum upperSum harmonic rootPair rootValues
+    alphaPart betaFactor _-q_ _*q_ sound same sameValue sameList eval lnPair lowerSum upperSum harmonic rootPair rootValues
     wholeRoot greatest leQ zeroQ negQ _+q_ _over_ readOf readRefusal mapRefusal scenarioIn lengthBy numbersOf sizeOf
-    absentWritten refusalOf refusalBy beyondPeriods
+    absentWritten refusalOf lacksDistance projectionExceeds refusalByModel refusalBy beyondPeriods
 all-pass = tt
 
 pub all-hold : AllHold values

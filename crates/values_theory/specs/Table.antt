@@ -1,6 +1,7 @@
 -- The values that document 01, 'Values to try', marks P: one table, and what it is that a row of it holds.
 use mathlib.Core.Path.{_≡_}
 use mathlib.Core.List.{List, [], _∷_}
+use mathlib.Core.Option.{Option, none, some}
 use Prim.Native.Nat.{ℕ, _^_, _≤_, _<_}
 use lib.IntN.{ℤ, pos, negℤ, _+ℤ_}
 use lib.ListN.{length, getD}
@@ -23,8 +24,8 @@ pub data Check : Type 0 where
   atEvery : Formula → Fraction → Check
   -- fractions: what is worked out has this value
   fraction : Fraction → Fraction → Check
-  -- records: bytes are read as these fields, in the record's order, and this length
-  reads : List ℕ → List ℕ → Check
+  -- records: bytes are read as these fields, in the record's order, none of a distance that is absent, and this length
+  reads : List ℕ → List (Option ℕ) → Check
 
 -- P has the ends x and y
 pub record HasEnds (P : Pair) (x y : Fraction) : Type 0 where
@@ -67,7 +68,7 @@ values =
     atEvery (bnl (booreAtkinson.rowFor 200 .site) 7_600) (pos 0 over 1) ∷
     -- "bytes 37 01 BC 02 E8 03 02 4B 00 are Idriss, M 7.00, 10 km, 760 m/s, code 2, 0.075 s"
     reads (0x37 ∷ 0x01 ∷ 0xBC ∷ 0x02 ∷ 0xE8 ∷ 0x03 ∷ 0x02 ∷ 0x4B ∷ 0x00 ∷ [])
-    (1 ∷ 700 ∷ 1_000 ∷ 7_600 ∷ 2 ∷ 75 ∷ 9 ∷ []) ∷
+    (some 1 ∷ some 700 ∷ some 1_000 ∷ some 7_600 ∷ some 2 ∷ some 75 ∷ none ∷ some 9 ∷ []) ∷
     []
 
 -- the shared statement: every row holds
