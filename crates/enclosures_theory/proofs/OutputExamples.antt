@@ -6,7 +6,7 @@ use native.Mathlib.Omega.{arith}
 use Rattle.record_theory.specs.declared.Reading.the-variants.{Refused}
 use Rattle.record_theory.specs.Outcome.{scenarioIn, lengthBy, mapRefusal, readRefusal, readOf}
 use Rattle.record_theory.specs.Layout.{sizeOf, numbersOf, absentWritten}
-use Rattle.scenario_theory.specs.Refusal.{beyondPeriods, refusalBy, refusalOf}
+use Rattle.scenario_theory.specs.Refusal.{beyondPeriods, refusalBy, refusalByModel, lacksDistance, projectionExceeds, refusalOf}
 use Rattle.report_theory.specs.Text.{ascii, decimal, digitsBy, spaced}
 use Rattle.report_theory.specs.Lines.{lineOf, lastLineOf}
 use Rattle.enclosures_theory.specs.Output.{ended, linesOf}
@@ -28,8 +28,8 @@ abbrev bytes : List ℕ
 bytes = 0x37 ∷ 0x01 ∷ 0xbc ∷ 0x02 ∷ 0xe8 ∷ 0x03 ∷ 0x02 ∷ 0x09 ∷ 0x00 ∷ []
 
 read-with-6 : readOf bytes ≡ Refused 6
-unfolding readOf readRefusal mapRefusal lengthBy scenarioIn sizeOf numbersOf absentWritten refusalBy refusalOf
-    beyondPeriods
+unfolding readOf readRefusal mapRefusal lengthBy scenarioIn sizeOf numbersOf absentWritten refusalOf lacksDistance
+    projectionExceeds refusalByModel refusalBy beyondPeriods
 read-with-6 = refl
 
 pub refused-example : linesOf bytes ≡ ascii "enclosures\n1 R 6\nend 1\n"
