@@ -1,5 +1,5 @@
 -- The ends of an accepted scenario enclose what its model gives: by a row, and between two rows (W-201).
-use mathlib.Core.Path.{_≡_, refl}
+use mathlib.Core.Path.{_≡_, refl, ap}
 use mathlib.Core.Bool.{Bool, true, false, cond}
 use mathlib.Core.Logic.{⊎-elim}
 use Prim.Native.Nat.{ℕ, _*_, _^_, _≤_}
@@ -19,6 +19,7 @@ use Rattle.interval_theory.specs.Bound.{Reaches}
 use Rattle.interval_theory.proofs.SignedBounds.{reaches-more}
 use Rattle.interpolation_theory.specs.Promise.{BetweenEnds}
 use Rattle.scenario_theory.specs.declared.Scenario.{Scenario}
+use Rattle.scenario_theory.specs.Distances.{given}
 use Rattle.scenario_theory.specs.Refusal.{idriss, booreAtkinson, refusalOf}
 use Rattle.scenario_theory.specs.Neighbours.{hasRow, neighbourBelow, neighbourAbove}
 use Rattle.scenario_theory.specs.Accepted.{Within}
@@ -188,7 +189,8 @@ module _ (s : Scenario) where
   module _ (model : s .model ≡ 1) (w : WithinBy idriss s) where
     idriss-median-is : median s ≡ idrissMedianBy (tableFor (s .magnitude)) (w .distance) s
     unfolding median
-    idriss-median-is = rw (model, w .reads) refl
+    idriss-median-is =
+        rw model (ap (λ o. given o (λ R. idrissMedianBy (tableFor (s .magnitude)) R s) undefined) (w .reads))
 
     idriss-enclosure-is : enclosureOf s ≡
         idrissEnclosureOf (s .magnitude) (w .distance) (s .velocity) (s .mechanism) (s .period)
@@ -210,7 +212,8 @@ module _ (s : Scenario) where
   module _ (model : s .model ≡ 2) (w : WithinBy booreAtkinson s) where
     boore-atkinson-median-is : median s ≡ booreAtkinsonMedianBy (w .distance) s
     unfolding median
-    boore-atkinson-median-is = rw (model, w .reads) refl
+    boore-atkinson-median-is =
+        rw model (ap (λ o. given o (λ RJB. booreAtkinsonMedianBy RJB s) undefined) (w .reads))
 
     boore-atkinson-enclosure-is : enclosureOf s ≡
         booreAtkinsonEnclosureOf (s .magnitude) (w .distance) (s .velocity) (s .mechanism) (s .period)

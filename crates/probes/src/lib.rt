@@ -218,14 +218,7 @@ pub extern "C" fn probe_idriss(
 {
     let distance = RuptureDistance(rupture_distance);
     if idriss_takes(k, magnitude, distance, velocity, mechanism) {
-        return tell(idriss::median(
-            table == 3,
-            k,
-            magnitude,
-            distance,
-            velocity,
-            mechanism,
-        ));
+        return tell(idriss::median(table == 3, k, magnitude, distance, velocity, mechanism));
     }
     none()
 }

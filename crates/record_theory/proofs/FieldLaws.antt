@@ -68,7 +68,7 @@ pub scenario-is : (s : List ℕ) → mapRefusal (mapIn s) ≡ 0 →
 unfolding scenarioIn
 scenario-is s e =
     let p = passed (mapIn s) e in
-    rw (numbers-at layout (mapIn s) 1 s) (simp (p .model, p .magnitude, bit-or))
+    rw (numbers-at layout (mapIn s) 1 s) (simp (p .model, p .magnitude, bit-or) refl)
 
 -- the distances that are read stand where the map says so
 stands-by : (b : Bool) (x : ℕ) → b ≡ not (isAbsent (cond b (some x) none))

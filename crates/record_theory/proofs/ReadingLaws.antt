@@ -30,7 +30,7 @@ use Rattle.record_theory.specs.Steps.{basedReadingOf, readingIn, Complet
 
 in-two : (s : List ℕ) → (frontRefusal s otherwise fieldRefusal (mapIn s) (scenarioIn s)) ≡ readRefusal s
 unfolding frontRefusal fieldRefusal readRefusal
-in-two s = simp first-of-three
+in-two s = simp first-of-three refl
 
 pub front-passes : (s : List ℕ) → frontRefusal s ≡ 0 → Complete s
 unfolding frontRefusal

@@ -1,5 +1,5 @@
 -- What a scenario that is not refused is like.
-use mathlib.Core.Path.{_≡_, refl}
+use mathlib.Core.Path.{_≡_, refl, sym, subst}
 use mathlib.Core.Bool.{Bool, true, false, false≢true, true≢false, not, cond, _&&_, _||_}
 use mathlib.Core.Logic.{_⊎_, inl, inr, ⊎-elim}
 use mathlib.Core.Option.{Option, none, some}
@@ -150,4 +150,4 @@ projection-at-most s e =
     let w = p .1 in
     let e = rw (w .reads) at (none-applies s e .thirteen) in
     nearer (projectionNumber (s .projection)) (w .within .distance-high) (omega arith) e)
-    (λ p. let w = p .1 in rw (w .reads) (w .within .distance-high)) (of-model s e)
+    (λ p. let w = p .1 in subst (AtMost 19_999) (sym (w .reads)) (w .within .distance-high)) (of-model s e)
