@@ -6,7 +6,8 @@ use native.Mathlib.Omega.{arith}
 use Rattle.record_theory.specs.declared.Reading.the-variants.{Refused}
 use Rattle.record_theory.specs.Outcome.{scenarioIn, lengthBy, mapRefusal, readRefusal, readOf}
 use Rattle.record_theory.specs.Layout.{sizeOf, numbersOf, absentWritten}
-use Rattle.scenario_theory.specs.Refusal.{beyondPeriods, refusalBy, refusalByModel, lacksDistance, projectionExceeds, refusalOf}
+use Rattle.scenario_theory.specs.Refusal.{beyondPeriods, refusalBy, refusalByModel, lacksDistance}
+use Rattle.scenario_theory.specs.Refusal.{projectionExceeds, refusalOf}
 use Rattle.report_theory.specs.Text.{ascii, decimal, digitsBy, spaced}
 use Rattle.report_theory.specs.Lines.{lineOf, lastLineOf}
 use Rattle.enclosures_theory.specs.Output.{ended, linesOf}

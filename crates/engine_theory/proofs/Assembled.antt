@@ -111,7 +111,10 @@ module _ {M R Vs mechanism T k : ℕ} where
 
     pub boore-atkinson-at-row :
         _≡_ {A = Enclosure}
-        record { median = endsOf (booreAtkinsonRowsOf M R Vs mechanism k k .upper); sigma = sigmaOf (totalAt k) mechanism }
+        record {
+          median = endsOf (booreAtkinsonRowsOf M R Vs mechanism k k .upper);
+          sigma = sigmaOf (totalAt k) mechanism;
+        }
         (booreAtkinsonEnclosureOf M R Vs mechanism T)
     unfolding booreAtkinsonEnclosureOf booreAtkinsonMedianOf twoRowsOf
     boore-atkinson-at-row =

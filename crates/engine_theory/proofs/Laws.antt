@@ -17,7 +17,7 @@ use Rattle.engine_theory.specs.declared.DoublesAnswer.the-variants as D
 use Rattle.engine_theory.specs.declared.Answer.the-variants as A
 use Rattle.engine_theory.specs.Promise.{AnswerPromise, DoublesPromise}
 use Rattle.engine_theory.specs.Ranges.{AnswerInRange}
-use Rattle.engine_theory.specs.Evaluation.{enclosureOf, answerBy, answerOf, SmallAnswer, doublesOf, inDoubles}
+use Rattle.engine_theory.specs.Evaluation.{answerBy, answerOf, SmallAnswer, doublesOf, inDoubles}
 use Rattle.engine_theory.specs.Steps.{enclosureOn}
 use Rattle.engine_theory.proofs.Exact.{equals}
 use Rattle.engine_theory.proofs.ModelLaws.{sound}

@@ -47,8 +47,8 @@ booreAtkinsonMedianBy RJB s =
 abbrev pub undefined : Formula
 undefined = ln 0 1
 
--- "the exact natural logarithm that the model gives with its printed coefficients" (demand 3); "each model must read its
--- own" distance (W-202)
+-- "the exact natural logarithm that the model gives with its printed coefficients" (demand 3); of the distances "each
+-- model must read its own" (W-202)
 unfoldable pub median : Scenario → Formula
 median s =
     byModel s (given (idriss .reads s) (λ R. idrissMedianBy (tableFor (s .magnitude)) R s) undefined)

@@ -20,7 +20,8 @@ use Rattle.exact_theory.proofs.FractionLaws.{over-Is, le-as, ≤q-trans}
 use Rattle.exact_theory.proofs.DefinedTest.{sound}
 use Rattle.exact_theory.proofs.Coarse.{gap, negated, coarse, coarse-holds}
 use Rattle.scenario_theory.specs.declared.Scenario.{Scenario}
-use Rattle.scenario_theory.specs.Refusal.{beyondPeriods, refusalBy, refusalByModel, lacksDistance, projectionExceeds, refusalOf}
+use Rattle.scenario_theory.specs.Refusal.{beyondPeriods, refusalBy, refusalByModel, lacksDistance}
+use Rattle.scenario_theory.specs.Refusal.{projectionExceeds, refusalOf}
 use Rattle.idriss_theory.specs.Tables.{takesTable3, rowIn}
 use Rattle.idriss_theory.specs.Median.{alphaPart, betaFactor, F, median as idrissMedian}
 use Rattle.boore_atkinson_theory.specs.Tables.{rowFor as secondRowFor}

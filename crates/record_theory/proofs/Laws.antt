@@ -10,14 +10,15 @@ use native.Mathlib.Omega.{arith}
 use lib.ListN.{length, take, drop}
 use lib.Seq.{length-take-le}
 use Rattle.scenario_theory.specs.declared.Scenario.{Scenario}
-use Rattle.scenario_theory.specs.Distances.{ruptureNumber, isAbsent}
+use Rattle.scenario_theory.specs.Distances.{ruptureNumber}
 use Rattle.scenario_theory.specs.Refusal.{refusalOf}
 use Rattle.scenario_theory.proofs.DistanceLaws.{rupture-number, projection-number}
 use Rattle.scenario_theory.proofs.RefusalLaws.{AtMost, of-model}
 use Rattle.record_theory.specs.declared.Reading.the-variants.{Read}
 use Rattle.record_theory.specs.declared.Writing.the-variants.{Length}
 use Rattle.record_theory.specs.Layout.{Bytes, stands, recordOf}
-use Rattle.record_theory.specs.Outcome.{mapIn, scenarioIn, lengthBy, mapRefusal, readOf, restOf, writeOf, lentAfter}
+use Rattle.record_theory.specs.Outcome.{mapIn, scenarioIn, lengthBy, mapRefusal, readOf, restOf, writeOf}
+use Rattle.record_theory.specs.Outcome.{lentAfter}
 use Rattle.record_theory.proofs.FieldLaws.{length-is, scenario-is}
 use Rattle.record_theory.proofs.ReadBack.{read-written, rest-written}
 use Rattle.record_theory.proofs.ReadingLaws.{read-as}

@@ -35,7 +35,8 @@ written-read : (m : ℕ) (s : List ℕ) → mapRefusal m ≡ 0 →
 unfolding numbersOf absentWritten
 written-read m s e a =
     let p = passed m e in
-    let velocity = or-unless (stands 3 m) _ absentVelocity _ (distance-left (stands 2 m) _ _ (rw rupture-number at a)) in
+    let others = distance-left (stands 2 m) _ _ (rw rupture-number at a) in
+    let velocity = or-unless (stands 3 m) _ absentVelocity _ others in
     let mechanism = or-unless (stands 4 m) _ absentMechanism _ (velocity .1) in
     let period = or-unless (stands 5 m) _ absentPeriod _ (mechanism .1) in
     rw (velocity .0, mechanism .0, period .0, p .model, p .magnitude, rupture-number, projection-number) refl

@@ -7,13 +7,12 @@ use Prim.Native.Nat.{ℕ, _≤_, _<_}
 use native.Mathlib.Omega.{arith}
 use borrow.Author.Needs.{needs}
 use borrow.Author.Tests.{ltb-false, eqb-true, not-false}
-use lib.Dec.{T, eqb, ltb, ltb→lt, eqb→eq}
+use lib.Dec.{T, eqb, ltb, ltb→lt}
 use Rattle.toolbox_theory.specs.Lists.{among}
-use Rattle.toolbox_theory.proofs.Tests.{by-test}
 use Rattle.toolbox_theory.proofs.ListLaws.{neither, or-cases, upTo, at-most}
 use Rattle.scenario_theory.specs.declared.Scenario.{Scenario}
 use Rattle.scenario_theory.specs.Checks.{Range, beyond, _when_}
-use Rattle.scenario_theory.specs.Distances.{ruptureNumber, projectionNumber, isAbsent, given, exceeds}
+use Rattle.scenario_theory.specs.Distances.{projectionNumber, isAbsent, given, exceeds}
 use Rattle.scenario_theory.specs.Refusal.{Limits, idriss, booreAtkinson, answeredPeriods, beyondPeriods}
 use Rattle.scenario_theory.specs.Refusal.{refusalBy, refusalByModel, lacksDistance, projectionExceeds, refusalOf}
 use Rattle.scenario_theory.specs.Accepted.{Within}
@@ -104,7 +103,8 @@ of-model s e = let a = none-applies s e in go (eqb (s .model) 1) (eqb (s .model)
     go : (a b : Bool) → eqb (s .model) 1 ≡ a → eqb (s .model) 2 ≡ b →
         ((a && isAbsent (idriss .reads s)) || (b && isAbsent (booreAtkinson .reads s))) ≡ false →
         cond a (refusalBy idriss s) (cond b (refusalBy booreAtkinson s) 1) ≡ 0 → Taken s
-    go true b p q d e = inl (eqb-true (s .model) 1 p, within-by idriss s (neither (isAbsent (idriss .reads s)) _ d .0) e)
+    go true b p q d e =
+        inl (eqb-true (s .model) 1 p, within-by idriss s (neither (isAbsent (idriss .reads s)) _ d .0) e)
     go false true p q d e = inr (eqb-true (s .model) 2 q, within-by booreAtkinson s d e)
     go false false p q d e = absurd (omega arith)
 

@@ -170,7 +170,8 @@ module _ (first : ℕ) (m : Limits) (row : ℕ → ℕ) where
     placed = by-tabled (hasRow m t) refl
 
   -- the place of a period that is neither 0 nor in the list
-  pub in-no-row : (t : ℕ) {n : ℕ} {c : PlaceCheck} → Missed (Unit {0}) (0 ∷ m .periods) t → n ≡ countBelow (m .periods) t →
+  pub in-no-row : (t : ℕ) {n : ℕ} {c : PlaceCheck} → Missed (Unit {0}) (0 ∷ m .periods) t →
+      n ≡ countBelow (m .periods) t →
       c ≡ cond (ltb 0 n && ltb n (length (m .periods))) (C.Accepted (P.Between (first + n - 1))) (C.Refused 6) →
       c ≡ cond (eqb t 0) (C.Accepted (P.Row 0)) (placeAmong first (m .periods) t)
   unfolding placeAmong

@@ -6,15 +6,13 @@ use Prim.Native.Nat.{ℕ, _+_, _-_, _<_}
 use lib.Dec.{eqb, ltb}
 use lib.ListN.{length, getD}
 use Rattle.toolbox_theory.specs.Lists.{among, placeIn, countBelow}
-use Rattle.scenario_theory.specs.declared.Scenario.{Scenario}
 use Rattle.scenario_theory.specs.declared.Place.{Place}
 use Rattle.scenario_theory.specs.declared.Place.the-variants as P
 use Rattle.scenario_theory.specs.declared.PlaceCheck.{PlaceCheck}
 use Rattle.scenario_theory.specs.declared.PlaceCheck.the-variants as C
 use Rattle.scenario_theory.specs.declared.RowPeriods.{RowPeriods}
 use Rattle.scenario_theory.specs.declared.RowPeriods.the-variants as R
-use Rattle.scenario_theory.specs.Checks.{unlessRefused}
-use Rattle.scenario_theory.specs.Refusal.{Limits, idriss, booreAtkinson, refusalBy, refusalOf}
+use Rattle.scenario_theory.specs.Refusal.{Limits, idriss, booreAtkinson}
 use Rattle.scenario_theory.specs.Neighbours.{hasRow, neighbourBelow, neighbourAbove, idrissPrinted}
 
 -- how many there are of either model, counted from 0; the number itself stands for a period that has none

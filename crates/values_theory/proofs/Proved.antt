@@ -13,7 +13,8 @@ use Rattle.exact_theory.specs.Logarithm.{harmonic, lowerSum, upperSum, lnPair}
 use Rattle.exact_theory.specs.Root.{greatest, wholeRoot, rootValues, rootPair}
 use Rattle.exact_theory.specs.Formula.{Formula, eval, Defined}
 use Rattle.exact_theory.proofs.DefinedTest.{sound, defined}
-use Rattle.scenario_theory.specs.Refusal.{beyondPeriods, refusalBy, refusalByModel, lacksDistance, projectionExceeds, refusalOf}
+use Rattle.scenario_theory.specs.Refusal.{beyondPeriods, refusalBy, refusalByModel, lacksDistance}
+use Rattle.scenario_theory.specs.Refusal.{projectionExceeds, refusalOf}
 use Rattle.record_theory.specs.Layout.{sizeOf, numbersOf, absentWritten}
 use Rattle.record_theory.specs.Outcome.{readingNumber, readingValues, scenarioIn, lengthBy, mapRefusal, readRefusal}
 use Rattle.record_theory.specs.Outcome.{readOf}
@@ -94,9 +95,9 @@ holds (reads s xs) t = search (and-left, and-right, eqb→eq, same-list)
 
 all-pass : T (every (λ k c. passes c) 0 values)
 unfolding passes matches constant lnConstant when merged zeroOver positive rowIn secondRowFor takesTable3 bnl
-    alphaPart betaFactor _-q_ _*q_ sound same sameValue sameList eval lnPair lowerSum upperSum harmonic rootPair rootValues
-    wholeRoot greatest leQ zeroQ negQ _+q_ _over_ readOf readRefusal mapRefusal scenarioIn lengthBy numbersOf sizeOf
-    absentWritten refusalOf lacksDistance projectionExceeds refusalByModel refusalBy beyondPeriods
+    alphaPart betaFactor _-q_ _*q_ sound same sameValue sameList eval lnPair lowerSum upperSum harmonic rootPair
+    rootValues wholeRoot greatest leQ zeroQ negQ _+q_ _over_ readOf readRefusal mapRefusal scenarioIn lengthBy
+    numbersOf sizeOf absentWritten refusalOf lacksDistance projectionExceeds refusalByModel refusalBy beyondPeriods
 all-pass = tt
 
 pub all-hold : AllHold values

@@ -9,7 +9,9 @@ use Rattle.engine.proofs.by_boore_atkinson.Tie as tie
 
 rows-are : (c : tie.After-median-rows) →
     let a = c .before .before .before .args in
-    c .median-rows .result ≡ booreAtkinsonRowsOf (a .magnitude) (a .distance .0) (a .velocity) (a .mechanism) (firstIn (a .place)) (lastIn (a .place))
+    c .median-rows .result ≡
+    booreAtkinsonRowsOf (a .magnitude) (a .distance .0) (a .velocity) (a .mechanism) (firstIn (a .place))
+    (lastIn (a .place))
 rows-are c = c .median-rows .ensures ∙ rw (c .before .last-row .ensures, c .before .before .first-row .ensures) refl
 
 pub by-boore-atkinson-spec : {M : Type 1} → statement M

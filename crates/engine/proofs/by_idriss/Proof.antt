@@ -9,7 +9,8 @@ use Rattle.engine.proofs.by_idriss.Tie as tie
 
 rows-are : (c : tie.After-median-rows) →
     let a = c .before .before .before .before .args in
-    c .median-rows .result ≡ idrissRowsOf (a .magnitude) (a .distance .0) (a .velocity) (a .mechanism) (firstIn (a .place)) (lastIn (a .place))
+    c .median-rows .result ≡
+    idrissRowsOf (a .magnitude) (a .distance .0) (a .velocity) (a .mechanism) (firstIn (a .place)) (lastIn (a .place))
 rows-are c =
     let first = c .before .before in
     c .median-rows .ensures ∙

@@ -1,5 +1,5 @@
 -- `fusnoch_read` meets its contract.
-use mathlib.Core.Path.{refl, ap, sym, _∙_}
+use mathlib.Core.Path.{ap, sym, _∙_}
 use borrow.Author.Needs.{needs}
 use Rattle.host_theory.specs.Told.{toldReading}
 use Rattle.host_theory.proofs.Laws.{reads}

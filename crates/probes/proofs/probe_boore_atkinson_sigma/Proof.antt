@@ -11,8 +11,10 @@ unfolding probedBooreAtkinsonSigma
 probe-boore-atkinson-sigma-spec =
     tie.close
     (tie.spec
-    (λ c κs. search needs) (λ c κs. taken _ _ (c .before .boore-atkinson-takes .ensures) (c .if1 .taken) .row) (λ c κs. search needs)
+    (λ c κs. search needs) (λ c κs. taken _ _ (c .before .boore-atkinson-takes .ensures) (c .if1 .taken) .row)
+    (λ c κs. search needs)
     (λ c. let i = c .before .before in
-    rw (← (i .before .boore-atkinson-takes .ensures), i .if1 .taken) (c .tell .ensures ∙ ap told (c .before .sigma .ensures .0)))
+    rw (← (i .before .boore-atkinson-takes .ensures), i .if1 .taken)
+    (c .tell .ensures ∙ ap told (c .before .sigma .ensures .0)))
     (λ c κs. search needs)
     (λ c. let i = c .before in rw (← (i .before .boore-atkinson-takes .ensures), i .if1 .left) (c .none .ensures)))

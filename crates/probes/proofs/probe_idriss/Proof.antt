@@ -1,5 +1,5 @@
 -- `probe_idriss` meets its contract.
-use mathlib.Core.Path.{_∙_, ap, refl}
+use mathlib.Core.Path.{_∙_, ap}
 use borrow.Author.Needs.{needs}
 use Rattle.idriss_theory.proofs.Accepted.{median-domain}
 use Rattle.probes.specs.Probe.{told, probedIdriss}
@@ -17,6 +17,7 @@ probe-idriss-spec =
     median-domain (t .row) (takes-idriss (t .accepted)))
     (λ c κs. search needs)
     (λ c. let i = c .before .before in
-    rw (← (i .before .idriss-takes .ensures), i .if1 .taken) (c .tell .ensures ∙ ap told (c .before .median .ensures .0)))
+    rw (← (i .before .idriss-takes .ensures), i .if1 .taken)
+    (c .tell .ensures ∙ ap told (c .before .median .ensures .0)))
     (λ c κs. search needs)
     (λ c. let i = c .before in rw (← (i .before .idriss-takes .ensures), i .if1 .left) (c .none .ensures)))

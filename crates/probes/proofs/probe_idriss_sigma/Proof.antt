@@ -21,7 +21,8 @@ rests : (c : tie.After-known-told2) →
 rests c =
     let basis = c .before .before .before .before in
     let k = basis .before .before in
-    passed (asked (k .before)) (sym (k .check .ensures) ∙ (basis .basis .given .1 ∙ ap K.Accepted (c .before .basis2 .given .1)))
+    let known = basis .basis .given .1 ∙ ap K.Accepted (c .before .basis2 .given .1) in
+    passed (asked (k .before)) (sym (k .check .ensures) ∙ known)
 
 answered : tie.Need-returns
 unfolding probedIdrissSigma isTaken

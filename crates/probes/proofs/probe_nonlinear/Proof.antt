@@ -1,5 +1,5 @@
 -- `probe_nonlinear` meets its contract.
-use mathlib.Core.Path.{_∙_, ap, refl}
+use mathlib.Core.Path.{_∙_, ap}
 use borrow.Author.Tests.{lt-ltb, le-ltb}
 use borrow.Author.Needs.{needs}
 use Rattle.probes.specs.Probe.{told, probedNonlinear}
@@ -25,4 +25,5 @@ probe-nonlinear-spec =
     (c .tell .ensures ∙ ap told (c .before .nonlinear .ensures .0)))
     (λ c κs. search needs)
     (λ c. let i = c .before in
-    rw (le-ltb _ _ (i .before .before .if1 .left), ← (i .before .boore-atkinson-takes .ensures), i .if2 .left) (c .none2 .ensures)))
+    rw (le-ltb _ _ (i .before .before .if1 .left), ← (i .before .boore-atkinson-takes .ensures), i .if2 .left)
+    (c .none2 .ensures)))

@@ -1,7 +1,6 @@
 -- `projection_if` meets its contract.
 use mathlib.Core.Path.{refl}
 use native.Mathlib.Omega.{arith}
-use borrow.Author.Needs.{needs}
 use Rattle.record_reading.proofs.projection_if.Statement.{statement}
 use Rattle.record_reading.proofs.projection_if.Tie as tie
 

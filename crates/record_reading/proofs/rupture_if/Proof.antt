@@ -1,7 +1,6 @@
 -- `rupture_if` meets its contract.
 use mathlib.Core.Path.{refl}
 use native.Mathlib.Omega.{arith}
-use borrow.Author.Needs.{needs}
 use Rattle.record_reading.proofs.rupture_if.Statement.{statement}
 use Rattle.record_reading.proofs.rupture_if.Tie as tie
 

@@ -38,8 +38,9 @@ written c =
     let e = sym (k .refusal .ensures) ∙ n .before .before .if1 .left in
     let m = n .before .map-byte .ensures in
     let size = length-written x (n .record-length .ensures) m in
-    is-written _ _ e size (omega arith)
-    (record-stores x _ _ m (head .put-head .ensures) (middle .put-middle .ensures) (end .put-end .ensures) (omega arith))
+    let stores =
+    record-stores x _ _ m (head .put-head .ensures) (middle .put-middle .ensures) (end .put-end .ensures) in
+    is-written _ _ e size (omega arith) (stores (omega arith))
 
 pub write-spec : {M : Type 1} → statement M
 write-spec =

@@ -1,5 +1,5 @@
 -- `check` meets its contract.
-use mathlib.Core.Path.{_≡_, refl, sym, _∙_}
+use mathlib.Core.Path.{refl, sym, _∙_}
 use borrow.Author.Needs.{needs}
 use borrow.Author.Tests.{ne-eqb}
 use Rattle.scenario_theory.specs.Refusal.{lacksDistance, projectionExceeds, refusalByModel, refusalOf}
@@ -44,7 +44,8 @@ boore-atkinson-limits c =
     let near = sym (k .before .projection-exceeds .ensures) ∙ e .if2 .left in
     c .boore-atkinson-basis .ensures ∙
     rw (k .match .keys2, d .projection .given .1)
-    (boore-atkinson-checked _ _ _ _ _ _ (rw (d .projection .given .1) at near) (c .before .boore-atkinson-check .ensures))
+    (boore-atkinson-checked _ _ _ _ _ _ (rw (d .projection .given .1) at near)
+    (c .before .boore-atkinson-check .ensures))
 
 -- ---- no distance is needed
 

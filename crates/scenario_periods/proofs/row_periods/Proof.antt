@@ -1,5 +1,5 @@
 -- `row_periods` meets its contract.
-use mathlib.Core.Path.{refl, _∙_}
+use mathlib.Core.Path.{refl}
 use borrow.Author.Needs.{needs}
 use borrow.Author.Tests.{ne-eqb}
 use Rattle.scenario_theory.specs.Neighbours.{rowPeriodsOf}
