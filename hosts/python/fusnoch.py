@@ -55,9 +55,9 @@ class Refused(Exception):
 # ---------------------------------------------------------------------------
 
 class _Scenario(ctypes.Structure):
-    _fields_ = [('model', c_uint8), ('magnitude', c_uint16), ('rupture_present', c_uint8),
-                ('rupture_distance', c_uint16), ('velocity', c_uint16), ('mechanism', c_uint8), ('period', c_uint16),
-                ('projection_present', c_uint8), ('projection_distance', c_uint16)]
+    _fields_ = [('model', c_uint8), ('rupture_present', c_uint8), ('magnitude', c_uint16),
+                ('rupture_distance', c_uint16), ('velocity', c_uint16), ('mechanism', c_uint8),
+                ('projection_present', c_uint8), ('period', c_uint16), ('projection_distance', c_uint16)]
 
 
 # The flags of the distances: where one is 0, the distance is absent, whatever its number.

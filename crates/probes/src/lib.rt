@@ -80,8 +80,14 @@ fn tell_place(c: PlaceCheck) -> ProbedPlace
 {
     match c {
         PlaceCheck::Accepted(p) => match p {
-            Place::Row(row) => ProbedPlace { kind: 0, row },
-            Place::Between(row) => ProbedPlace { kind: 1, row },
+            Place::Row(k) => ProbedPlace {
+                kind: 0,
+                row: k as usize,
+            },
+            Place::Between(k) => ProbedPlace {
+                kind: 1,
+                row: k as usize,
+            },
         },
         PlaceCheck::Refused(_) => ProbedPlace { kind: 2, row: 0 },
     }
@@ -230,7 +236,7 @@ fn idriss_sigma(p: Place, period: u16, magnitude: u16) -> SignedEnds
     ensures { λ r. ⌜ (r ≡ sigmaOf period magnitude) × SmallerThan (2 ^ 53) r ⌝ }
 {
     match p {
-        Place::Row(k) => idriss_sigma::sigma(k, period, magnitude),
+        Place::Row(k) => idriss_sigma::sigma(k as usize, period, magnitude),
         Place::Between(_) => idriss_sigma::sigma_between(period, magnitude),
     }
 }

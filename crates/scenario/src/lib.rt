@@ -121,7 +121,8 @@ fn projection_exceeds(rupture: Rupture, projection: Projection) -> bool
 }
 
 // The checks 9 for the distance, 13 and 1 to 6 of the scenario that has these fields: what the answer rests on, or the
-// number of the first that it fails. The fields pass in registers, as a struct would be stored and read back.
+// number of the first that it fails. The fields pass one by one, as a struct would be stored and read back. Where 13
+// applies both distances stand, so that 9 does not, and it can be looked at first.
 pub fn check(
     model: u8,
     magnitude: u16,
@@ -134,38 +135,25 @@ pub fn check(
     ensures { λ r. ⌜ r ≡ checkOf
         (scenarioWith model magnitude rupture velocity mechanism period projection) ⌝ }
 {
-    let exceeds = projection_exceeds(rupture, projection);
+    if projection_exceeds(rupture, projection) {
+        return Check::Refused(13);
+    }
     match model {
         1 => match rupture {
             Rupture::Absent => Check::Refused(9),
-            Rupture::At(distance) => {
-                if exceeds {
-                    return Check::Refused(13);
-                }
-                idriss_basis(
-                    distance,
-                    idriss_check(magnitude, distance, velocity, mechanism, period),
-                )
-            }
+            Rupture::At(distance) => idriss_basis(
+                distance,
+                idriss_check(magnitude, distance, velocity, mechanism, period),
+            ),
         },
         2 => match projection {
             Projection::Absent => Check::Refused(9),
-            Projection::At(distance) => {
-                if exceeds {
-                    return Check::Refused(13);
-                }
-                boore_atkinson_basis(
-                    distance,
-                    boore_atkinson_check(magnitude, distance, velocity, mechanism, period),
-                )
-            }
+            Projection::At(distance) => boore_atkinson_basis(
+                distance,
+                boore_atkinson_check(magnitude, distance, velocity, mechanism, period),
+            ),
         },
-        _ => {
-            if exceeds {
-                return Check::Refused(13);
-            }
-            Check::Refused(1)
-        }
+        _ => Check::Refused(1),
     }
 }
 

@@ -4,13 +4,19 @@ ghost use Prim.Native.Nat.{_<_};
 ghost use lib.ListN.{getD};
 ghost use Rattle.scenario_theory.specs.Rows.{rowCount, rowList, periodsAt, InTable};
 ghost use Rattle.scenario_theory.specs.Neighbours.{rowPeriodsOf};
+ghost use Rattle.scenario_theory.specs.Accepted.{placeFound};
+use scenario::check;
 use scenario_rows::boore_atkinson_period;
-use scenario_rows::boore_atkinson_place;
 use scenario_rows::idriss_period;
-use scenario_rows::idriss_place;
+use scenario_theory::Basis;
+use scenario_theory::Check;
 use scenario_theory::Place;
 use scenario_theory::PlaceCheck;
+use scenario_theory::Projection;
+use scenario_theory::ProjectionDistance;
 pub use scenario_theory::RowPeriods;
+use scenario_theory::Rupture;
+use scenario_theory::RuptureDistance;
 
 // The period of row k in the tables of Idriss for model 1, of Boore-Atkinson for any other.
 fn period_of_row(model: u8, k: usize) -> u16
@@ -31,25 +37,38 @@ fn periods_at(model: u8, place: PlaceCheck) -> RowPeriods
     match place {
         PlaceCheck::Accepted(p) => match p {
             Place::Row(k) => {
-                let t = period_of_row(model, k);
+                let t = period_of_row(model, k as usize);
                 RowPeriods::Rows(t, t)
             }
-            Place::Between(k) => {
-                RowPeriods::Rows(period_of_row(model, k), period_of_row(model, k + 1))
-            }
+            Place::Between(k) => RowPeriods::Rows(
+                period_of_row(model, k as usize),
+                period_of_row(model, k as usize + 1),
+            ),
         },
         PlaceCheck::Refused(k) => RowPeriods::Refused(k),
     }
 }
 
+// The place that the checks have looked up.
+fn place_found(c: Check) -> PlaceCheck
+    ensures { λ r. ⌜ r ≡ placeFound c ⌝ }
+{
+    match c {
+        Check::Accepted(basis) => match basis {
+            Basis::Idriss(_, p) => PlaceCheck::Accepted(p),
+            Basis::BooreAtkinson(_, p) => PlaceCheck::Accepted(p),
+        },
+        Check::Refused(k) => PlaceCheck::Refused(k),
+    }
+}
+
 // The periods of the two rows that a median at a period rests on: equal where the period has a row of its own, else
-// its neighbours in the tables of the model.
+// its neighbours in the tables of the model. The checks look them up, of a scenario that is accepted but for these two.
 pub fn row_periods(model: u8, period: u16) -> RowPeriods
     ensures { λ r. ⌜ r ≡ rowPeriodsOf model period ⌝ }
 {
-    match model {
-        1 => periods_at(1, idriss_place(period)),
-        2 => periods_at(2, boore_atkinson_place(period)),
-        _ => RowPeriods::Refused(1),
-    }
+    let rupture = Rupture::At(RuptureDistance(0));
+    let projection = Projection::At(ProjectionDistance(0));
+    let c = check(model, 700, rupture, 7_600, 0, period, projection);
+    periods_at(model, place_found(c))
 }

@@ -46,11 +46,11 @@ fn periods() -> [u16; 22]
 }
 
 // How many of Idriss's periods are below a period.
-fn count_below(period: u16) -> usize
+fn count_below(period: u16) -> u8
     ensures { λ n. ⌜ (n ≡ countBelow (idriss .periods) period) × (n ≤ 22) ⌝ }
 {
     let t = periods();
-    let mut n: usize = 0;
+    let mut n: u8 = 0;
     let mut i: usize = 0;
     while i < 22 {
         if t[i] < period {
@@ -63,7 +63,7 @@ fn count_below(period: u16) -> usize
 
 // The place of a period that has no row, after n of so many periods, the first of which has row `first`; none before
 // all of them or after.
-fn after(n: usize, count: usize, first: usize) -> PlaceCheck
+fn after(n: u8, count: u8, first: u8) -> PlaceCheck
     requires { ⌜ (n ≤ 22) × (first ≤ 1) ⌝ }
     ensures { λ r. ⌜ r ≡ cond (ltb 0 n && ltb n count) (C.Accepted (P.Between (first + n - 1))) (C.Refused 6) ⌝ }
 {
@@ -77,7 +77,7 @@ fn after(n: usize, count: usize, first: usize) -> PlaceCheck
 }
 
 // How many of Boore-Atkinson's periods are below a period.
-fn count_below_without_40(period: u16) -> usize
+fn count_below_without_40(period: u16) -> u8
     ensures { λ n. ⌜ (n ≡ countBelow (booreAtkinson .periods) period) × (n ≤ 22) ⌝ }
 {
     let n = count_below(period);

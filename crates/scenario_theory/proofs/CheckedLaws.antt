@@ -1,10 +1,12 @@
 -- The checks of a program, one by one, and what they have shown where they pass.
 use mathlib.Core.Path.{_≡_, refl, sym, ap, subst, _∙_}
-use mathlib.Core.Bool.{Bool, true, false, not}
+use mathlib.Core.Bool.{Bool, true, false, false≢true, not, and-false}
 use mathlib.Core.Logic.{⊎-elim}
 use mathlib.Core.Option.{Option, none, some}
 use Prim.Native.Nat.{ℕ}
 use native.Mathlib.Omega.{arith}
+use borrow.Author.Tests.{eqb-true}
+use lib.Dec.{eqb}
 use Rattle.toolbox_theory.specs.Lists.{among}
 use Rattle.scenario_theory.specs.declared.Scenario.{Scenario}
 use Rattle.scenario_theory.specs.declared.RuptureDistance.{RuptureDistance}
@@ -13,20 +15,26 @@ use Rattle.scenario_theory.specs.declared.Rupture.{Rupture}
 use Rattle.scenario_theory.specs.declared.Rupture.the-variants as R
 use Rattle.scenario_theory.specs.declared.Projection.{Projection}
 use Rattle.scenario_theory.specs.declared.Projection.the-variants as P
+use Rattle.scenario_theory.specs.declared.Place.{Place}
 use Rattle.scenario_theory.specs.declared.PlaceCheck.{PlaceCheck}
 use Rattle.scenario_theory.specs.declared.PlaceCheck.the-variants as C
 use Rattle.scenario_theory.specs.declared.Basis.{Basis}
 use Rattle.scenario_theory.specs.declared.Basis.the-variants as B
 use Rattle.scenario_theory.specs.declared.Check.the-variants as K
 use Rattle.scenario_theory.specs.Checks.{beyond, _when_, unlessRefused}
-use Rattle.scenario_theory.specs.Distances.{ruptureNumber, projectionNumber, given, exceeds}
+use Rattle.scenario_theory.specs.Distances.{ruptureNumber, projectionNumber, isAbsent, given, exceeds}
 use Rattle.scenario_theory.specs.Refusal.{Limits, idriss, booreAtkinson, beyondPeriods, refusalBy}
 use Rattle.scenario_theory.specs.Refusal.{refusalByModel, lacksDistance, projectionExceeds, refusalOf}
 use Rattle.scenario_theory.specs.Rows.{placeBy, idrissRow, booreAtkinsonRow, idrissPlace, booreAtkinsonPlace}
-use Rattle.scenario_theory.specs.Accepted.{scenarioWith, checkBy, basisOf, basedOn, checkOf, RestsOn}
+use Rattle.scenario_theory.specs.Rows.{rowList, periodsAt, InTable}
+use Rattle.scenario_theory.specs.Neighbours.{rowPeriodsOf}
+use Rattle.scenario_theory.specs.Accepted.{scenarioWith, checkBy, basisOf, basedOn, checkOf, placeFound}
+use Rattle.scenario_theory.specs.Accepted.{plainScenario, RestsOn}
 use Rattle.scenario_theory.proofs.CheckLaws.{unless-is, of-unless}
 use Rattle.scenario_theory.proofs.RefusalLaws.{WithinBy, of-model}
 use Rattle.scenario_theory.proofs.RowLaws.{placed, idriss-listed, boore-atkinson-listed}
+use Rattle.scenario_theory.proofs.PeriodLaws.{idriss-in-table, boore-atkinson-in-table, idriss-periods}
+use Rattle.scenario_theory.proofs.PeriodLaws.{boore-atkinson-periods}
 
 -- ---- the checks of a program are those of a model's column, one by one
 
@@ -86,35 +94,74 @@ boore-atkinson-last {s} n h =
 
 -- ---- all checks
 
+-- two numbers the first of which exceeds the second both stand
+both-stand : (p r : Option ℕ) → exceeds p r ≡ true → (isAbsent p ≡ false) × (isAbsent r ≡ false)
+both-stand none r e = absurd (false≢true e)
+both-stand (some p) none e = absurd (false≢true e)
+both-stand (some p) (some r) e = (refl, refl)
+
+-- so 9 does not apply where 13 does
+pub exceeded : (s : Scenario) → projectionExceeds s ≡ true → K.Refused 13 ≡ checkOf s
+unfolding checkOf refusalOf lacksDistance projectionExceeds
+exceeded s e =
+    let b = both-stand (projectionNumber (s .projection)) (ruptureNumber (s .rupture)) e in
+    simp (b .0, b .1, and-false, e) refl
+
 module _ (M Vs mechanism T : ℕ) where
-  module _ (d : RuptureDistance) (projection : Projection) where
-    pub idriss-exceeded : exceeds (projectionNumber projection) (some (d .0)) ≡ true →
-        K.Refused 13 ≡ checkOf (scenarioWith 1 M (R.At d) Vs mechanism T projection)
-    unfolding checkOf refusalOf lacksDistance projectionExceeds
-    idriss-exceeded e = rw e refl
+  pub idriss-checked : (d : RuptureDistance) (projection : Projection) {c : PlaceCheck} →
+      exceeds (projectionNumber projection) (some (d .0)) ≡ false →
+      c ≡ checkBy idriss idrissRow (scenarioWith 1 M (R.At d) Vs mechanism T P.Absent) →
+      basedOn (B.Idriss d) c ≡ checkOf (scenarioWith 1 M (R.At d) Vs mechanism T projection)
+  unfolding checkOf refusalOf lacksDistance projectionExceeds refusalByModel basisOf checkBy refusalBy
+  idriss-checked d projection e h =
+      let s = scenarioWith 1 M (R.At d) Vs mechanism T projection in
+      rw (e, h) (of-unless (basedOn (B.Idriss d)) (refusalBy idriss s) (C.Accepted (placeBy idriss idrissRow T)) _)
 
-    pub idriss-checked : {c : PlaceCheck} → exceeds (projectionNumber projection) (some (d .0)) ≡ false →
-        c ≡ checkBy idriss idrissRow (scenarioWith 1 M (R.At d) Vs mechanism T P.Absent) →
-        basedOn (B.Idriss d) c ≡ checkOf (scenarioWith 1 M (R.At d) Vs mechanism T projection)
-    unfolding checkOf refusalOf lacksDistance projectionExceeds refusalByModel basisOf checkBy refusalBy
-    idriss-checked e h =
-        let s = scenarioWith 1 M (R.At d) Vs mechanism T projection in
-        rw (e, h) (of-unless (basedOn (B.Idriss d)) (refusalBy idriss s) (C.Accepted (placeBy idriss idrissRow T)) _)
+  pub boore-atkinson-checked : (d : ProjectionDistance) (rupture : Rupture) {c : PlaceCheck} →
+      exceeds (some (d .0)) (ruptureNumber rupture) ≡ false →
+      c ≡ checkBy booreAtkinson booreAtkinsonRow (scenarioWith 2 M R.Absent Vs mechanism T (P.At d)) →
+      basedOn (B.BooreAtkinson d) c ≡ checkOf (scenarioWith 2 M rupture Vs mechanism T (P.At d))
+  unfolding checkOf refusalOf lacksDistance projectionExceeds refusalByModel basisOf checkBy refusalBy
+  boore-atkinson-checked d rupture e h =
+      let s = scenarioWith 2 M rupture Vs mechanism T (P.At d) in
+      let place = C.Accepted (placeBy booreAtkinson booreAtkinsonRow T) in
+      rw (e, h) (of-unless (basedOn (B.BooreAtkinson d)) (refusalBy booreAtkinson s) place _)
 
-  module _ (d : ProjectionDistance) (rupture : Rupture) where
-    pub boore-atkinson-exceeded : exceeds (some (d .0)) (ruptureNumber rupture) ≡ true →
-        K.Refused 13 ≡ checkOf (scenarioWith 2 M rupture Vs mechanism T (P.At d))
-    unfolding checkOf refusalOf lacksDistance projectionExceeds
-    boore-atkinson-exceeded e = rw e refl
+-- ---- the periods of the rows, as the checks of a scenario look them up
 
-    pub boore-atkinson-checked : {c : PlaceCheck} → exceeds (some (d .0)) (ruptureNumber rupture) ≡ false →
-        c ≡ checkBy booreAtkinson booreAtkinsonRow (scenarioWith 2 M R.Absent Vs mechanism T (P.At d)) →
-        basedOn (B.BooreAtkinson d) c ≡ checkOf (scenarioWith 2 M rupture Vs mechanism T (P.At d))
-    unfolding checkOf refusalOf lacksDistance projectionExceeds refusalByModel basisOf checkBy refusalBy
-    boore-atkinson-checked e h =
-        let s = scenarioWith 2 M rupture Vs mechanism T (P.At d) in
-        let place = C.Accepted (placeBy booreAtkinson booreAtkinsonRow T) in
-        rw (e, h) (of-unless (basedOn (B.BooreAtkinson d)) (refusalBy booreAtkinson s) place _)
+place-found : (basis : Place → Basis) → ((p : Place) → placeFound (K.Accepted (basis p)) ≡ C.Accepted p) →
+    (c : PlaceCheck) → placeFound (basedOn basis c) ≡ c
+place-found basis same (C.Accepted p) = same p
+place-found basis same (C.Refused k) = refl
+
+module _ (T : ℕ) where
+  idriss-place : placeFound (checkOf (plainScenario 1 T)) ≡ idrissPlace T
+  idriss-place =
+      let none : NoneBefore idriss _ = record { two = refl; three = refl; four = refl; five = refl } in
+      ap placeFound (sym (idriss-checked 700 7_600 0 T (record { 0 = 0 }) _ refl (idriss-last none refl))) ∙
+      place-found _ (λ p. refl) (idrissPlace T)
+
+  boore-atkinson-place : placeFound (checkOf (plainScenario 2 T)) ≡ booreAtkinsonPlace T
+  boore-atkinson-place =
+      let none : NoneBefore booreAtkinson _ = record { two = refl; three = refl; four = refl; five = refl } in
+      let checked = boore-atkinson-checked 700 7_600 0 T (record { 0 = 0 }) _ refl (boore-atkinson-last none refl) in
+      ap placeFound (sym checked) ∙ place-found _ (λ p. refl) (booreAtkinsonPlace T)
+
+abbrev LooksUp : ℕ → ℕ → Type 0
+LooksUp model T =
+    let place = placeFound (checkOf (plainScenario model T)) in
+    InTable place × (periodsAt (rowList model) place ≡ rowPeriodsOf model T)
+
+pub looks-up : (model T : ℕ) → LooksUp model T
+unfolding checkOf refusalOf lacksDistance projectionExceeds refusalByModel rowPeriodsOf
+looks-up model T = go (eqb model 1) (eqb model 2) refl refl
+  where
+    go : (a b : Bool) → eqb model 1 ≡ a → eqb model 2 ≡ b → LooksUp model T
+    go true b p q =
+        rw (eqb-true model 1 p) (rw (idriss-place T) (idriss-in-table T, idriss-periods T))
+    go false true p q =
+        rw (eqb-true model 2 q) (rw (boore-atkinson-place T) (boore-atkinson-in-table T, boore-atkinson-periods T))
+    go false false p q = rw (p, q) (tt, refl)
 
 -- ---- what they have shown
 

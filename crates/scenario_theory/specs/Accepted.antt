@@ -63,6 +63,16 @@ basedOn basis (C.Refused k) = K.Refused k
 unfoldable pub checkOf : Scenario → Check
 checkOf s = unlessRefused (refusalOf s) (basisOf s) (K.Refused (refusalOf s))
 
+-- the place alone
+abbrev pub placeFound : Check → PlaceCheck
+placeFound (K.Accepted (B.Idriss d p)) = C.Accepted p
+placeFound (K.Accepted (B.BooreAtkinson d p)) = C.Accepted p
+placeFound (K.Refused k) = C.Refused k
+
+-- a scenario that is accepted but for its model and its period
+abbrev pub plainScenario : ℕ → ℕ → Scenario
+plainScenario model T = scenarioWith model 700 (R.At (record { 0 = 0 })) 7_600 0 T (P.At (record { 0 = 0 }))
+
 -- ---- what is known where they pass
 
 -- magnitude, distance, velocity, mechanism and period are within the limits of a model

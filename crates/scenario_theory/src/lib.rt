@@ -34,10 +34,11 @@ pub struct Scenario {
     pub projection: Projection,
 }
 
-// Where a period that is answered stands in the tables of a model: it has row k, or lies between rows k and k + 1.
+// Where a period that is answered stands in the tables of a model: it has row k, or lies between rows k and k + 1. A
+// row is a u8, so that what the checks answer passes in a register.
 pub enum Place {
-    Row(usize),
-    Between(usize),
+    Row(u8),
+    Between(u8),
 }
 
 // What the checks by the limits of one model come to: the place of the period, or the number of the first that fails.

@@ -111,13 +111,13 @@ mod raw {
     #[repr(C)]
     pub struct Scenario {
         pub model: u8,
-        pub magnitude: u16,
         pub rupture_present: u8,
+        pub magnitude: u16,
         pub rupture_distance: u16,
         pub velocity: u16,
         pub mechanism: u8,
-        pub period: u16,
         pub projection_present: u8,
+        pub period: u16,
         pub projection_distance: u16,
     }
 

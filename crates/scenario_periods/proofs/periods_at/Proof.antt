@@ -25,10 +25,10 @@ pub periods-at-spec : {M : Type 1} → statement M
 periods-at-spec =
     tie.close
     (tie.spec
-    (λ c. search needs) (λ c. search needs)
+    (λ c. search needs) (λ c. search needs) (λ c. search needs)
     (λ c κs. rw (at-row c) at (c .before .before .before .before .before .before .pre))
-    (λ c. search needs) (λ c κs. omega (arith, next c)) (λ c. omega (arith, next (c .before)))
-    (λ c κs. next (c .before)) (λ c. search needs)
+    (λ c. search needs) (λ c. search needs) (λ c κs. omega (arith, next c)) (λ c. search needs)
+    (λ c. omega (arith, next (c .before))) (λ c κs. next (c .before)) (λ c. search needs)
     (λ c. rw (c .period-of-row .ensures, at-row (c .before)) refl)
     (λ c. rw (c .period-of-row3 .ensures, c .before .period-of-row2 .ensures, between (c .before .before)) refl)
     (λ c. rw (c .before .place2 .given .1) refl))
