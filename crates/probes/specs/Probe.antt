@@ -8,8 +8,8 @@ use Rattle.interval_theory.specs.declared.SignedEnds.{SignedEnds}
 use Rattle.logarithm_theory.specs.Evaluation.{lnOf, rootOf}
 use Rattle.scenario_theory.specs.declared.Scenario.{Scenario}
 use Rattle.scenario_theory.specs.declared.Place.the-variants as P
-use Rattle.scenario_theory.specs.declared.PlaceCheck.{PlaceCheck}
-use Rattle.scenario_theory.specs.declared.PlaceCheck.the-variants as C
+use Rattle.scenario_theory.specs.declared.Lookup.{Lookup}
+use Rattle.scenario_theory.specs.declared.Lookup.the-variants as L
 use Rattle.scenario_theory.specs.declared.Rupture.the-variants as R
 use Rattle.scenario_theory.specs.declared.Projection.the-variants as Q
 use Rattle.scenario_theory.specs.Refusal.{refusalOf}
@@ -84,10 +84,10 @@ probedNonlinear k v low high =
 
 -- ---- where a period stands
 
-abbrev pub toldPlace : PlaceCheck → ProbedPlace
-toldPlace (C.Accepted (P.Row k)) = record { kind = 0; row = k }
-toldPlace (C.Accepted (P.Between k)) = record { kind = 1; row = k }
-toldPlace (C.Refused k) = record { kind = 2; row = 0 }
+abbrev pub toldPlace : Lookup → ProbedPlace
+toldPlace (L.Found (P.Row k)) = record { kind = 0; row = k }
+toldPlace (L.Found (P.Between k)) = record { kind = 1; row = k }
+toldPlace L.Outside = record { kind = 2; row = 0 }
 
 unfoldable pub probedPlace : ℕ → ℕ → ProbedPlace
 probedPlace model period = toldPlace (cond (eqb model 1) (idrissPlace period) (booreAtkinsonPlace period))

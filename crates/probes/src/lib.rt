@@ -15,8 +15,8 @@ ghost use Rattle.probes.specs.Probe.{probedNonlinear, toldPlace, probedP
 use interval_theory::SignedEnds;
 use scenario_theory::Basis;
 use scenario_theory::Check;
+use scenario_theory::Lookup;
 use scenario_theory::Place;
-use scenario_theory::PlaceCheck;
 use scenario_theory::Projection;
 use scenario_theory::ProjectionDistance;
 use scenario_theory::Rupture;
@@ -75,11 +75,11 @@ pub extern "C" fn probe_root(x: u64) -> u64
     logarithm::root(x)
 }
 
-fn tell_place(c: PlaceCheck) -> ProbedPlace
-    ensures { λ r. ⌜ r ≡ toldPlace c ⌝ }
+fn tell_place(l: Lookup) -> ProbedPlace
+    ensures { λ r. ⌜ r ≡ toldPlace l ⌝ }
 {
-    match c {
-        PlaceCheck::Accepted(p) => match p {
+    match l {
+        Lookup::Found(p) => match p {
             Place::Row(k) => ProbedPlace {
                 kind: 0,
                 row: k as usize,
@@ -89,7 +89,7 @@ fn tell_place(c: PlaceCheck) -> ProbedPlace
                 row: k as usize,
             },
         },
-        PlaceCheck::Refused(_) => ProbedPlace { kind: 2, row: 0 },
+        Lookup::Outside => ProbedPlace { kind: 2, row: 0 },
     }
 }
 

@@ -15,7 +15,7 @@ use scenario_rows::boore_atkinson_place;
 use scenario_rows::idriss_place;
 pub use scenario_theory::Basis;
 pub use scenario_theory::Check;
-use scenario_theory::PlaceCheck;
+use scenario_theory::Lookup;
 pub use scenario_theory::Projection;
 pub use scenario_theory::ProjectionDistance;
 pub use scenario_theory::Rupture;
@@ -35,30 +35,50 @@ fn unknown(code: u8, other: u8) -> bool
     3 < code && code != other
 }
 
-// The checks 2 to 6 by Idriss's limits.
+// What an answer by Idriss rests on, by the look-up of its period.
+fn idriss_basis(distance: RuptureDistance, lookup: Lookup) -> Check
+    ensures { λ r. ⌜ r ≡ basedOn (B.Idriss distance) lookup ⌝ }
+{
+    match lookup {
+        Lookup::Found(place) => Check::Accepted(Basis::Idriss(distance, place)),
+        Lookup::Outside => Check::Refused(6),
+    }
+}
+
+// And one by Boore and Atkinson.
+fn boore_atkinson_basis(distance: ProjectionDistance, lookup: Lookup) -> Check
+    ensures { λ r. ⌜ r ≡ basedOn (B.BooreAtkinson distance) lookup ⌝ }
+{
+    match lookup {
+        Lookup::Found(place) => Check::Accepted(Basis::BooreAtkinson(distance, place)),
+        Lookup::Outside => Check::Refused(6),
+    }
+}
+
+// The checks 2 to 6 by Idriss's limits, with what an answer rests on.
 fn idriss_check(
     magnitude: u16,
     distance: RuptureDistance,
     velocity: u16,
     mechanism: u8,
     period: u16,
-) -> PlaceCheck
-    ensures { λ r. ⌜ r ≡ checkBy idriss idrissRow
+) -> Check
+    ensures { λ r. ⌜ r ≡ checkBy idriss idrissRow (B.Idriss distance)
         (scenarioWith 1 magnitude (R.At distance) velocity mechanism period P.Absent) ⌝ }
 {
     if outside(450, 790, magnitude) {
-        return PlaceCheck::Refused(2);
+        return Check::Refused(2);
     }
     if outside(0, 17_500, distance.0) {
-        return PlaceCheck::Refused(3);
+        return Check::Refused(3);
     }
     if outside(4_500, 20_000, velocity) {
-        return PlaceCheck::Refused(4);
+        return Check::Refused(4);
     }
     if unknown(mechanism, 4) {
-        return PlaceCheck::Refused(5);
+        return Check::Refused(5);
     }
-    idriss_place(period)
+    idriss_basis(distance, idriss_place(period))
 }
 
 // And those by Boore and Atkinson's.
@@ -68,43 +88,23 @@ fn boore_atkinson_check(
     velocity: u16,
     mechanism: u8,
     period: u16,
-) -> PlaceCheck
-    ensures { λ r. ⌜ r ≡ checkBy booreAtkinson booreAtkinsonRow
+) -> Check
+    ensures { λ r. ⌜ r ≡ checkBy booreAtkinson booreAtkinsonRow (B.BooreAtkinson distance)
         (scenarioWith 2 magnitude R.Absent velocity mechanism period (P.At distance)) ⌝ }
 {
     if outside(500, 800, magnitude) {
-        return PlaceCheck::Refused(2);
+        return Check::Refused(2);
     }
     if outside(0, 19_999, distance.0) {
-        return PlaceCheck::Refused(3);
+        return Check::Refused(3);
     }
     if outside(1_800, 13_000, velocity) {
-        return PlaceCheck::Refused(4);
+        return Check::Refused(4);
     }
     if unknown(mechanism, 9) {
-        return PlaceCheck::Refused(5);
+        return Check::Refused(5);
     }
-    boore_atkinson_place(period)
-}
-
-// What an answer by Idriss rests on, with the place that his checks have looked up.
-fn idriss_basis(distance: RuptureDistance, c: PlaceCheck) -> Check
-    ensures { λ r. ⌜ r ≡ basedOn (B.Idriss distance) c ⌝ }
-{
-    match c {
-        PlaceCheck::Accepted(place) => Check::Accepted(Basis::Idriss(distance, place)),
-        PlaceCheck::Refused(k) => Check::Refused(k),
-    }
-}
-
-// And one by Boore and Atkinson.
-fn boore_atkinson_basis(distance: ProjectionDistance, c: PlaceCheck) -> Check
-    ensures { λ r. ⌜ r ≡ basedOn (B.BooreAtkinson distance) c ⌝ }
-{
-    match c {
-        PlaceCheck::Accepted(place) => Check::Accepted(Basis::BooreAtkinson(distance, place)),
-        PlaceCheck::Refused(k) => Check::Refused(k),
-    }
+    boore_atkinson_basis(distance, boore_atkinson_place(period))
 }
 
 // Whether both distances stand and the projection distance exceeds the rupture distance.
@@ -141,17 +141,15 @@ pub fn check(
     match model {
         1 => match rupture {
             Rupture::Absent => Check::Refused(9),
-            Rupture::At(distance) => idriss_basis(
-                distance,
-                idriss_check(magnitude, distance, velocity, mechanism, period),
-            ),
+            Rupture::At(distance) => {
+                idriss_check(magnitude, distance, velocity, mechanism, period)
+            }
         },
         2 => match projection {
             Projection::Absent => Check::Refused(9),
-            Projection::At(distance) => boore_atkinson_basis(
-                distance,
-                boore_atkinson_check(magnitude, distance, velocity, mechanism, period),
-            ),
+            Projection::At(distance) => {
+                boore_atkinson_check(magnitude, distance, velocity, mechanism, period)
+            }
         },
         _ => Check::Refused(1),
     }

@@ -4,14 +4,12 @@ ghost use Prim.Native.Nat.{_<_};
 ghost use lib.ListN.{getD};
 ghost use Rattle.scenario_theory.specs.Rows.{rowCount, rowList, periodsAt, InTable};
 ghost use Rattle.scenario_theory.specs.Neighbours.{rowPeriodsOf};
-ghost use Rattle.scenario_theory.specs.Accepted.{placeFound};
 use scenario::check;
 use scenario_rows::boore_atkinson_period;
 use scenario_rows::idriss_period;
 use scenario_theory::Basis;
 use scenario_theory::Check;
 use scenario_theory::Place;
-use scenario_theory::PlaceCheck;
 use scenario_theory::Projection;
 use scenario_theory::ProjectionDistance;
 pub use scenario_theory::RowPeriods;
@@ -30,35 +28,19 @@ fn period_of_row(model: u8, k: usize) -> u16
 }
 
 // The periods of the rows of a place in those tables.
-fn periods_at(model: u8, place: PlaceCheck) -> RowPeriods
+fn periods_at(model: u8, place: Place) -> RowPeriods
     requires { ⌜ InTable place ⌝ }
     ensures { λ r. ⌜ r ≡ periodsAt (rowList model) place ⌝ }
 {
     match place {
-        PlaceCheck::Accepted(p) => match p {
-            Place::Row(k) => {
-                let t = period_of_row(model, k as usize);
-                RowPeriods::Rows(t, t)
-            }
-            Place::Between(k) => RowPeriods::Rows(
-                period_of_row(model, k as usize),
-                period_of_row(model, k as usize + 1),
-            ),
-        },
-        PlaceCheck::Refused(k) => RowPeriods::Refused(k),
-    }
-}
-
-// The place that the checks have looked up.
-fn place_found(c: Check) -> PlaceCheck
-    ensures { λ r. ⌜ r ≡ placeFound c ⌝ }
-{
-    match c {
-        Check::Accepted(basis) => match basis {
-            Basis::Idriss(_, p) => PlaceCheck::Accepted(p),
-            Basis::BooreAtkinson(_, p) => PlaceCheck::Accepted(p),
-        },
-        Check::Refused(k) => PlaceCheck::Refused(k),
+        Place::Row(k) => {
+            let t = period_of_row(model, k as usize);
+            RowPeriods::Rows(t, t)
+        }
+        Place::Between(k) => RowPeriods::Rows(
+            period_of_row(model, k as usize),
+            period_of_row(model, k as usize + 1),
+        ),
     }
 }
 
@@ -69,6 +51,11 @@ pub fn row_periods(model: u8, period: u16) -> RowPeriods
 {
     let rupture = Rupture::At(RuptureDistance(0));
     let projection = Projection::At(ProjectionDistance(0));
-    let c = check(model, 700, rupture, 7_600, 0, period, projection);
-    periods_at(model, place_found(c))
+    match check(model, 700, rupture, 7_600, 0, period, projection) {
+        Check::Accepted(basis) => match basis {
+            Basis::Idriss(_, place) => periods_at(1, place),
+            Basis::BooreAtkinson(_, place) => periods_at(2, place),
+        },
+        Check::Refused(k) => RowPeriods::Refused(k),
+    }
 }

@@ -7,11 +7,11 @@ ghost use lib.Dec.{ltb};
 ghost use lib.ListN.{getD};
 ghost use Rattle.toolbox_theory.specs.Lists.{countBelow};
 ghost use Rattle.scenario_theory.specs.declared.Place.the-variants as P;
-ghost use Rattle.scenario_theory.specs.declared.PlaceCheck.the-variants as C;
+ghost use Rattle.scenario_theory.specs.declared.Lookup.the-variants as L;
 ghost use Rattle.scenario_theory.specs.Refusal.{idriss, booreAtkinson};
 ghost use Rattle.scenario_theory.specs.Rows.{rowCount, idrissPlace, booreAtkinsonPlace};
+use scenario_theory::Lookup;
 use scenario_theory::Place;
-use scenario_theory::PlaceCheck;
 
 // Idriss's tabled periods, in thousandths of a second; Boore-Atkinson has the same without 40.
 const PERIODS: [u16; 22] = [
@@ -63,17 +63,17 @@ fn count_below(period: u16) -> u8
 
 // The place of a period that has no row, after n of so many periods, the first of which has row `first`; none before
 // all of them or after.
-fn after(n: u8, count: u8, first: u8) -> PlaceCheck
+fn after(n: u8, count: u8, first: u8) -> Lookup
     requires { ⌜ (n ≤ 22) × (first ≤ 1) ⌝ }
-    ensures { λ r. ⌜ r ≡ cond (ltb 0 n && ltb n count) (C.Accepted (P.Between (first + n - 1))) (C.Refused 6) ⌝ }
+    ensures { λ r. ⌜ r ≡ cond (ltb 0 n && ltb n count) (L.Found (P.Between (first + n - 1))) L.Outside ⌝ }
 {
     if n == 0 {
-        return PlaceCheck::Refused(6);
+        return Lookup::Outside;
     }
     if n < count {
-        return PlaceCheck::Accepted(Place::Between(first + n - 1));
+        return Lookup::Found(Place::Between(first + n - 1));
     }
-    PlaceCheck::Refused(6)
+    Lookup::Outside
 }
 
 // How many of Boore-Atkinson's periods are below a period.
@@ -88,64 +88,64 @@ fn count_below_without_40(period: u16) -> u8
 }
 
 // Where a period stands in Idriss's tables, or that it is outside them.
-pub fn idriss_place(period: u16) -> PlaceCheck
+pub fn idriss_place(period: u16) -> Lookup
     ensures { λ r. ⌜ r ≡ idrissPlace period ⌝ }
 {
     match period {
-        0 => PlaceCheck::Accepted(Place::Row(0)),
-        10 => PlaceCheck::Accepted(Place::Row(0)),
-        20 => PlaceCheck::Accepted(Place::Row(1)),
-        30 => PlaceCheck::Accepted(Place::Row(2)),
-        40 => PlaceCheck::Accepted(Place::Row(3)),
-        50 => PlaceCheck::Accepted(Place::Row(4)),
-        75 => PlaceCheck::Accepted(Place::Row(5)),
-        100 => PlaceCheck::Accepted(Place::Row(6)),
-        150 => PlaceCheck::Accepted(Place::Row(7)),
-        200 => PlaceCheck::Accepted(Place::Row(8)),
-        250 => PlaceCheck::Accepted(Place::Row(9)),
-        300 => PlaceCheck::Accepted(Place::Row(10)),
-        400 => PlaceCheck::Accepted(Place::Row(11)),
-        500 => PlaceCheck::Accepted(Place::Row(12)),
-        750 => PlaceCheck::Accepted(Place::Row(13)),
-        1_000 => PlaceCheck::Accepted(Place::Row(14)),
-        1_500 => PlaceCheck::Accepted(Place::Row(15)),
-        2_000 => PlaceCheck::Accepted(Place::Row(16)),
-        3_000 => PlaceCheck::Accepted(Place::Row(17)),
-        4_000 => PlaceCheck::Accepted(Place::Row(18)),
-        5_000 => PlaceCheck::Accepted(Place::Row(19)),
-        7_500 => PlaceCheck::Accepted(Place::Row(20)),
-        10_000 => PlaceCheck::Accepted(Place::Row(21)),
+        0 => Lookup::Found(Place::Row(0)),
+        10 => Lookup::Found(Place::Row(0)),
+        20 => Lookup::Found(Place::Row(1)),
+        30 => Lookup::Found(Place::Row(2)),
+        40 => Lookup::Found(Place::Row(3)),
+        50 => Lookup::Found(Place::Row(4)),
+        75 => Lookup::Found(Place::Row(5)),
+        100 => Lookup::Found(Place::Row(6)),
+        150 => Lookup::Found(Place::Row(7)),
+        200 => Lookup::Found(Place::Row(8)),
+        250 => Lookup::Found(Place::Row(9)),
+        300 => Lookup::Found(Place::Row(10)),
+        400 => Lookup::Found(Place::Row(11)),
+        500 => Lookup::Found(Place::Row(12)),
+        750 => Lookup::Found(Place::Row(13)),
+        1_000 => Lookup::Found(Place::Row(14)),
+        1_500 => Lookup::Found(Place::Row(15)),
+        2_000 => Lookup::Found(Place::Row(16)),
+        3_000 => Lookup::Found(Place::Row(17)),
+        4_000 => Lookup::Found(Place::Row(18)),
+        5_000 => Lookup::Found(Place::Row(19)),
+        7_500 => Lookup::Found(Place::Row(20)),
+        10_000 => Lookup::Found(Place::Row(21)),
         _ => after(count_below(period), 22, 0),
     }
 }
 
 // Where a period stands in Boore-Atkinson's tables, or that it is outside them.
-pub fn boore_atkinson_place(period: u16) -> PlaceCheck
+pub fn boore_atkinson_place(period: u16) -> Lookup
     ensures { λ r. ⌜ r ≡ booreAtkinsonPlace period ⌝ }
 {
     match period {
-        0 => PlaceCheck::Accepted(Place::Row(0)),
-        10 => PlaceCheck::Accepted(Place::Row(1)),
-        20 => PlaceCheck::Accepted(Place::Row(2)),
-        30 => PlaceCheck::Accepted(Place::Row(3)),
-        50 => PlaceCheck::Accepted(Place::Row(4)),
-        75 => PlaceCheck::Accepted(Place::Row(5)),
-        100 => PlaceCheck::Accepted(Place::Row(6)),
-        150 => PlaceCheck::Accepted(Place::Row(7)),
-        200 => PlaceCheck::Accepted(Place::Row(8)),
-        250 => PlaceCheck::Accepted(Place::Row(9)),
-        300 => PlaceCheck::Accepted(Place::Row(10)),
-        400 => PlaceCheck::Accepted(Place::Row(11)),
-        500 => PlaceCheck::Accepted(Place::Row(12)),
-        750 => PlaceCheck::Accepted(Place::Row(13)),
-        1_000 => PlaceCheck::Accepted(Place::Row(14)),
-        1_500 => PlaceCheck::Accepted(Place::Row(15)),
-        2_000 => PlaceCheck::Accepted(Place::Row(16)),
-        3_000 => PlaceCheck::Accepted(Place::Row(17)),
-        4_000 => PlaceCheck::Accepted(Place::Row(18)),
-        5_000 => PlaceCheck::Accepted(Place::Row(19)),
-        7_500 => PlaceCheck::Accepted(Place::Row(20)),
-        10_000 => PlaceCheck::Accepted(Place::Row(21)),
+        0 => Lookup::Found(Place::Row(0)),
+        10 => Lookup::Found(Place::Row(1)),
+        20 => Lookup::Found(Place::Row(2)),
+        30 => Lookup::Found(Place::Row(3)),
+        50 => Lookup::Found(Place::Row(4)),
+        75 => Lookup::Found(Place::Row(5)),
+        100 => Lookup::Found(Place::Row(6)),
+        150 => Lookup::Found(Place::Row(7)),
+        200 => Lookup::Found(Place::Row(8)),
+        250 => Lookup::Found(Place::Row(9)),
+        300 => Lookup::Found(Place::Row(10)),
+        400 => Lookup::Found(Place::Row(11)),
+        500 => Lookup::Found(Place::Row(12)),
+        750 => Lookup::Found(Place::Row(13)),
+        1_000 => Lookup::Found(Place::Row(14)),
+        1_500 => Lookup::Found(Place::Row(15)),
+        2_000 => Lookup::Found(Place::Row(16)),
+        3_000 => Lookup::Found(Place::Row(17)),
+        4_000 => Lookup::Found(Place::Row(18)),
+        5_000 => Lookup::Found(Place::Row(19)),
+        7_500 => Lookup::Found(Place::Row(20)),
+        10_000 => Lookup::Found(Place::Row(21)),
         _ => after(count_below_without_40(period), 21, 1),
     }
 }

@@ -16,60 +16,63 @@ use Rattle.scenario_theory.specs.declared.Rupture.the-variants as R
 use Rattle.scenario_theory.specs.declared.Projection.{Projection}
 use Rattle.scenario_theory.specs.declared.Projection.the-variants as P
 use Rattle.scenario_theory.specs.declared.Place.{Place}
-use Rattle.scenario_theory.specs.declared.PlaceCheck.{PlaceCheck}
-use Rattle.scenario_theory.specs.declared.PlaceCheck.the-variants as C
+use Rattle.scenario_theory.specs.declared.Lookup.{Lookup}
+use Rattle.scenario_theory.specs.declared.Lookup.the-variants as L
 use Rattle.scenario_theory.specs.declared.Basis.{Basis}
 use Rattle.scenario_theory.specs.declared.Basis.the-variants as B
+use Rattle.scenario_theory.specs.declared.Check.{Check}
 use Rattle.scenario_theory.specs.declared.Check.the-variants as K
 use Rattle.scenario_theory.specs.Checks.{beyond, _when_, unlessRefused}
 use Rattle.scenario_theory.specs.Distances.{ruptureNumber, projectionNumber, isAbsent, given, exceeds}
 use Rattle.scenario_theory.specs.Refusal.{Limits, idriss, booreAtkinson, beyondPeriods, refusalBy}
 use Rattle.scenario_theory.specs.Refusal.{refusalByModel, lacksDistance, projectionExceeds, refusalOf}
 use Rattle.scenario_theory.specs.Rows.{placeBy, idrissRow, booreAtkinsonRow, idrissPlace, booreAtkinsonPlace}
-use Rattle.scenario_theory.specs.Rows.{rowList, periodsAt, InTable}
+use Rattle.scenario_theory.specs.Rows.{rowList}
 use Rattle.scenario_theory.specs.Neighbours.{rowPeriodsOf}
-use Rattle.scenario_theory.specs.Accepted.{scenarioWith, checkBy, basisOf, basedOn, checkOf, placeFound}
-use Rattle.scenario_theory.specs.Accepted.{plainScenario, RestsOn}
-use Rattle.scenario_theory.proofs.CheckLaws.{unless-is, of-unless}
+use Rattle.scenario_theory.specs.Accepted.{scenarioWith, checkBy, basisOf, basedOn, checkOf, periodsOn}
+use Rattle.scenario_theory.specs.Accepted.{InTables, plainScenario, RestsOn}
+use Rattle.scenario_theory.proofs.CheckLaws.{unless-is}
 use Rattle.scenario_theory.proofs.RefusalLaws.{WithinBy, of-model}
 use Rattle.scenario_theory.proofs.RowLaws.{placed, idriss-listed, boore-atkinson-listed}
 use Rattle.scenario_theory.proofs.PeriodLaws.{idriss-in-table, boore-atkinson-in-table, idriss-periods}
-use Rattle.scenario_theory.proofs.PeriodLaws.{boore-atkinson-periods}
+use Rattle.scenario_theory.proofs.PeriodLaws.{periodsFound, Tabled, boore-atkinson-periods}
 
 -- ---- the checks of a program are those of a model's column, one by one
 
-with-number : (b : Bool) (c : PlaceCheck) →
-    unlessRefused (6 when b) c (C.Refused 6) ≡ unlessRefused (6 when b) c (C.Refused (6 when b))
-with-number true c = refl
-with-number false c = refl
+-- the last of them, by the test of the period
+last-number : (basis : Place → Basis) (p : Place) (b : Bool) →
+    basedOn basis (unlessRefused (6 when b) (L.Found p) L.Outside) ≡
+    unlessRefused (6 when b) (K.Accepted (basis p)) (K.Refused (6 when b))
+last-number basis p true = refl
+last-number basis p false = refl
 
-module _ (m : Limits) (row : ℕ → ℕ) (s : Scenario) where
-  pub fails-2 : beyond (m .magnitude) (s .magnitude) ≡ true → C.Refused 2 ≡ checkBy m row s
+module _ (m : Limits) (row : ℕ → ℕ) (basis : Place → Basis) (s : Scenario) where
+  pub fails-2 : beyond (m .magnitude) (s .magnitude) ≡ true → K.Refused 2 ≡ checkBy m row basis s
   unfolding checkBy refusalBy
   fails-2 e = rw e refl
 
   module _ (two : beyond (m .magnitude) (s .magnitude) ≡ false) where
-    pub fails-3 : given (m .reads s) (beyond (m .distance)) false ≡ true → C.Refused 3 ≡ checkBy m row s
+    pub fails-3 : given (m .reads s) (beyond (m .distance)) false ≡ true → K.Refused 3 ≡ checkBy m row basis s
     unfolding checkBy refusalBy
     fails-3 e = rw (two, e) refl
 
     module _ (three : given (m .reads s) (beyond (m .distance)) false ≡ false) where
-      pub fails-4 : beyond (m .velocity) (s .velocity) ≡ true → C.Refused 4 ≡ checkBy m row s
+      pub fails-4 : beyond (m .velocity) (s .velocity) ≡ true → K.Refused 4 ≡ checkBy m row basis s
       unfolding checkBy refusalBy
       fails-4 e = rw (two, three, e) refl
 
       module _ (four : beyond (m .velocity) (s .velocity) ≡ false) where
-        pub fails-5 : not (among (m .mechanisms) (s .mechanism)) ≡ true → C.Refused 5 ≡ checkBy m row s
+        pub fails-5 : not (among (m .mechanisms) (s .mechanism)) ≡ true → K.Refused 5 ≡ checkBy m row basis s
         unfolding checkBy refusalBy
         fails-5 e = rw (two, three, four, e) refl
 
         -- and the last, the period's
-        last-check : {r : PlaceCheck} → not (among (m .mechanisms) (s .mechanism)) ≡ false →
-            r ≡ unlessRefused (6 when beyondPeriods (s .period)) (C.Accepted (placeBy m row (s .period)))
-            (C.Refused 6) →
-            r ≡ checkBy m row s
+        last-check : {l : Lookup} → not (among (m .mechanisms) (s .mechanism)) ≡ false →
+            l ≡ unlessRefused (6 when beyondPeriods (s .period)) (L.Found (placeBy m row (s .period))) L.Outside →
+            basedOn basis l ≡ checkBy m row basis s
         unfolding checkBy refusalBy
-        last-check five h = h ∙ rw (two, three, four, five) (with-number (beyondPeriods (s .period)) _)
+        last-check five h =
+            rw (h, two, three, four, five) (last-number basis (placeBy m row (s .period)) (beyondPeriods (s .period)))
 
 -- none of those before the period's applies
 pub record NoneBefore (m : Limits) (s : Scenario) : Type 0 where
@@ -78,18 +81,18 @@ pub record NoneBefore (m : Limits) (s : Scenario) : Type 0 where
   pub four : beyond (m .velocity) (s .velocity) ≡ false
   pub five : not (among (m .mechanisms) (s .mechanism)) ≡ false
 
-pub idriss-last : {s : Scenario} {r : PlaceCheck} → NoneBefore idriss s → r ≡ idrissPlace (s .period) →
-    r ≡ checkBy idriss idrissRow s
+pub idriss-last : (basis : Place → Basis) {s : Scenario} {l : Lookup} → NoneBefore idriss s →
+    l ≡ idrissPlace (s .period) → basedOn basis l ≡ checkBy idriss idrissRow basis s
 unfolding idrissPlace
-idriss-last {s} n h =
-    last-check idriss idrissRow s (n .two) (n .three) (n .four) (n .five)
+idriss-last basis {s} n h =
+    last-check idriss idrissRow basis s (n .two) (n .three) (n .four) (n .five)
     (h ∙ placed 0 idriss idrissRow idriss-listed (s .period))
 
-pub boore-atkinson-last : {s : Scenario} {r : PlaceCheck} → NoneBefore booreAtkinson s →
-    r ≡ booreAtkinsonPlace (s .period) → r ≡ checkBy booreAtkinson booreAtkinsonRow s
+pub boore-atkinson-last : (basis : Place → Basis) {s : Scenario} {l : Lookup} → NoneBefore booreAtkinson s →
+    l ≡ booreAtkinsonPlace (s .period) → basedOn basis l ≡ checkBy booreAtkinson booreAtkinsonRow basis s
 unfolding booreAtkinsonPlace
-boore-atkinson-last {s} n h =
-    last-check booreAtkinson booreAtkinsonRow s (n .two) (n .three) (n .four) (n .five)
+boore-atkinson-last basis {s} n h =
+    last-check booreAtkinson booreAtkinsonRow basis s (n .two) (n .three) (n .four) (n .five)
     (h ∙ placed 1 booreAtkinson booreAtkinsonRow boore-atkinson-listed (s .period))
 
 -- ---- all checks
@@ -108,59 +111,62 @@ exceeded s e =
     simp (b .0, b .1, and-false, e) refl
 
 module _ (M Vs mechanism T : ℕ) where
-  pub idriss-checked : (d : RuptureDistance) (projection : Projection) {c : PlaceCheck} →
+  pub idriss-checked : (d : RuptureDistance) (projection : Projection) {c : Check} →
       exceeds (projectionNumber projection) (some (d .0)) ≡ false →
-      c ≡ checkBy idriss idrissRow (scenarioWith 1 M (R.At d) Vs mechanism T P.Absent) →
-      basedOn (B.Idriss d) c ≡ checkOf (scenarioWith 1 M (R.At d) Vs mechanism T projection)
+      c ≡ checkBy idriss idrissRow (B.Idriss d) (scenarioWith 1 M (R.At d) Vs mechanism T P.Absent) →
+      c ≡ checkOf (scenarioWith 1 M (R.At d) Vs mechanism T projection)
   unfolding checkOf refusalOf lacksDistance projectionExceeds refusalByModel basisOf checkBy refusalBy
-  idriss-checked d projection e h =
-      let s = scenarioWith 1 M (R.At d) Vs mechanism T projection in
-      rw (e, h) (of-unless (basedOn (B.Idriss d)) (refusalBy idriss s) (C.Accepted (placeBy idriss idrissRow T)) _)
+  idriss-checked d projection e h = h ∙ rw e refl
 
-  pub boore-atkinson-checked : (d : ProjectionDistance) (rupture : Rupture) {c : PlaceCheck} →
+  pub boore-atkinson-checked : (d : ProjectionDistance) (rupture : Rupture) {c : Check} →
       exceeds (some (d .0)) (ruptureNumber rupture) ≡ false →
-      c ≡ checkBy booreAtkinson booreAtkinsonRow (scenarioWith 2 M R.Absent Vs mechanism T (P.At d)) →
-      basedOn (B.BooreAtkinson d) c ≡ checkOf (scenarioWith 2 M rupture Vs mechanism T (P.At d))
+      c ≡ checkBy booreAtkinson booreAtkinsonRow (B.BooreAtkinson d)
+      (scenarioWith 2 M R.Absent Vs mechanism T (P.At d)) →
+      c ≡ checkOf (scenarioWith 2 M rupture Vs mechanism T (P.At d))
   unfolding checkOf refusalOf lacksDistance projectionExceeds refusalByModel basisOf checkBy refusalBy
-  boore-atkinson-checked d rupture e h =
-      let s = scenarioWith 2 M rupture Vs mechanism T (P.At d) in
-      let place = C.Accepted (placeBy booreAtkinson booreAtkinsonRow T) in
-      rw (e, h) (of-unless (basedOn (B.BooreAtkinson d)) (refusalBy booreAtkinson s) place _)
+  boore-atkinson-checked d rupture e h = h ∙ rw e refl
 
 -- ---- the periods of the rows, as the checks of a scenario look them up
 
-place-found : (basis : Place → Basis) → ((p : Place) → placeFound (K.Accepted (basis p)) ≡ C.Accepted p) →
-    (c : PlaceCheck) → placeFound (basedOn basis c) ≡ c
-place-found basis same (C.Accepted p) = same p
-place-found basis same (C.Refused k) = refl
+-- what holds of a look-up holds of what rests on it
+abbrev LooksUp : ℕ → ℕ → Check → Type 0
+LooksUp model T c = InTables c × (periodsOn c ≡ rowPeriodsOf model T)
 
 module _ (T : ℕ) where
-  idriss-place : placeFound (checkOf (plainScenario 1 T)) ≡ idrissPlace T
-  idriss-place =
+  by-idriss : (l : Lookup) → Tabled l × (periodsFound (rowList 1) l ≡ rowPeriodsOf 1 T) →
+      LooksUp 1 T (basedOn (B.Idriss (record { 0 = 0 })) l)
+  by-idriss (L.Found p) h = h
+  by-idriss L.Outside h = h
+
+  by-boore-atkinson : (l : Lookup) → Tabled l × (periodsFound (rowList 2) l ≡ rowPeriodsOf 2 T) →
+      LooksUp 2 T (basedOn (B.BooreAtkinson (record { 0 = 0 })) l)
+  by-boore-atkinson (L.Found p) h = h
+  by-boore-atkinson L.Outside h = h
+
+  idriss-looks-up : LooksUp 1 T (checkOf (plainScenario 1 T))
+  unfolding rowPeriodsOf
+  idriss-looks-up =
       let none : NoneBefore idriss _ = record { two = refl; three = refl; four = refl; five = refl } in
-      ap placeFound (sym (idriss-checked 700 7_600 0 T (record { 0 = 0 }) _ refl (idriss-last none refl))) ∙
-      place-found _ (λ p. refl) (idrissPlace T)
+      let checked = idriss-checked 700 7_600 0 T (record { 0 = 0 }) _ refl (idriss-last _ none refl) in
+      subst (LooksUp 1 T) checked
+      (by-idriss (idrissPlace T) (idriss-in-table T, idriss-periods T))
 
-  boore-atkinson-place : placeFound (checkOf (plainScenario 2 T)) ≡ booreAtkinsonPlace T
-  boore-atkinson-place =
+  boore-atkinson-looks-up : LooksUp 2 T (checkOf (plainScenario 2 T))
+  unfolding rowPeriodsOf
+  boore-atkinson-looks-up =
       let none : NoneBefore booreAtkinson _ = record { two = refl; three = refl; four = refl; five = refl } in
-      let checked = boore-atkinson-checked 700 7_600 0 T (record { 0 = 0 }) _ refl (boore-atkinson-last none refl) in
-      ap placeFound (sym checked) ∙ place-found _ (λ p. refl) (booreAtkinsonPlace T)
+      let checked = boore-atkinson-checked 700 7_600 0 T (record { 0 = 0 }) _ refl (boore-atkinson-last _ none refl) in
+      subst (LooksUp 2 T) checked
+      (by-boore-atkinson (booreAtkinsonPlace T) (boore-atkinson-in-table T, boore-atkinson-periods T))
 
-abbrev LooksUp : ℕ → ℕ → Type 0
-LooksUp model T =
-    let place = placeFound (checkOf (plainScenario model T)) in
-    InTable place × (periodsAt (rowList model) place ≡ rowPeriodsOf model T)
-
-pub looks-up : (model T : ℕ) → LooksUp model T
+pub looks-up : (model T : ℕ) → InTables (checkOf (plainScenario model T)) ×
+    (periodsOn (checkOf (plainScenario model T)) ≡ rowPeriodsOf model T)
 unfolding checkOf refusalOf lacksDistance projectionExceeds refusalByModel rowPeriodsOf
 looks-up model T = go (eqb model 1) (eqb model 2) refl refl
   where
-    go : (a b : Bool) → eqb model 1 ≡ a → eqb model 2 ≡ b → LooksUp model T
-    go true b p q =
-        rw (eqb-true model 1 p) (rw (idriss-place T) (idriss-in-table T, idriss-periods T))
-    go false true p q =
-        rw (eqb-true model 2 q) (rw (boore-atkinson-place T) (boore-atkinson-in-table T, boore-atkinson-periods T))
+    go : (a b : Bool) → eqb model 1 ≡ a → eqb model 2 ≡ b → LooksUp model T (checkOf (plainScenario model T))
+    go true b p q = rw (eqb-true model 1 p) (idriss-looks-up T)
+    go false true p q = rw (eqb-true model 2 q) (boore-atkinson-looks-up T)
     go false false p q = rw (p, q) (tt, refl)
 
 -- ---- what they have shown

@@ -8,9 +8,11 @@ use lib.Dec.{eqb}
 use lib.ListN.{getD}
 use Rattle.toolbox_theory.specs.Lists.{among}
 use Rattle.toolbox_theory.proofs.ListLaws.{or-right}
-use Rattle.scenario_theory.specs.declared.PlaceCheck.{PlaceCheck}
-use Rattle.scenario_theory.specs.declared.PlaceCheck.the-variants as C
+use Rattle.scenario_theory.specs.declared.Lookup.{Lookup}
+use Rattle.scenario_theory.specs.declared.Lookup.the-variants as L
 use Rattle.scenario_theory.specs.declared.Place.the-variants as P
+use Rattle.scenario_theory.specs.declared.RowPeriods.{RowPeriods}
+use Rattle.scenario_theory.specs.declared.RowPeriods.the-variants as R
 use Rattle.scenario_theory.specs.Checks.{_when_, unlessRefused}
 use Rattle.scenario_theory.specs.Refusal.{Limits, idriss, booreAtkinson, beyondPeriods}
 use Rattle.scenario_theory.specs.Neighbours.{hasRow, neighbourBelow, neighbourAbove, idrissPrinted}
@@ -21,61 +23,70 @@ use Rattle.scenario_theory.proofs.RowLaws.{Listed, place, placed, betwe
 use Rattle.scenario_theory.proofs.RowLaws.{idriss-listed, boore-atkinson-listed, idriss-printed}
 use Rattle.scenario_theory.proofs.RowLaws.{printed-itself, boore-atkinson-printed}
 
+-- of a look-up: 6 where it finds nothing
+abbrev pub periodsFound : List ℕ → Lookup → RowPeriods
+periodsFound list (L.Found p) = periodsAt list p
+periodsFound list L.Outside = R.Refused 6
+
+abbrev pub Tabled : Lookup → Type 0
+Tabled (L.Found p) = InTable p
+Tabled L.Outside = Unit {0}
+
 module _ (first : ℕ) (m : Limits) (row : ℕ → ℕ) (l : Listed first m row)
     (few : (t : ℕ) → hasRow m t ≡ true → row t < rowCount) (t : ℕ) where
   tabled-at : (t : ℕ) → among (m .periods) t ≡ true → hasRow m t ≡ true
   tabled-at t e = or-right (eqb t 0) e
 
   -- what holds of the place by the definitions holds of that by counting
-  by-place : (K : PlaceCheck → Type 0) → (beyondPeriods t ≡ true → K (C.Refused 6)) →
-      (hasRow m t ≡ true → beyondPeriods t ≡ false → K (C.Accepted (P.Row (row t)))) →
+  by-place : (K : Lookup → Type 0) → (beyondPeriods t ≡ true → K L.Outside) →
+      (hasRow m t ≡ true → beyondPeriods t ≡ false → K (L.Found (P.Row (row t)))) →
       (BetweenRows m row t → hasRow m t ≡ false → beyondPeriods t ≡ false →
-      K (C.Accepted (P.Between (row (neighbourBelow m t))))) → K (place first m row t)
+      K (L.Found (P.Between (row (neighbourBelow m t))))) → K (place first m row t)
   by-place K out at between = rw (placed first m row l t) (outside (beyondPeriods t) refl)
     where
       tabled : (b : Bool) → hasRow m t ≡ b → beyondPeriods t ≡ false →
-          K (C.Accepted (cond b (P.Row (row t)) (P.Between (row (neighbourBelow m t)))))
+          K (L.Found (cond b (P.Row (row t)) (P.Between (row (neighbourBelow m t)))))
       tabled true e ok = at e ok
       tabled false e ok = between (between-rows first m row l t e ok) e ok
 
       outside : (b : Bool) → beyondPeriods t ≡ b →
-          K (unlessRefused (6 when b) (C.Accepted (placeBy m row t)) (C.Refused 6))
+          K (unlessRefused (6 when b) (L.Found (placeBy m row t)) L.Outside)
       outside true e = out e
       outside false e = tabled (hasRow m t) refl e
 
-  in-table : InTable (place first m row t)
+  in-table : Tabled (place first m row t)
   in-table =
-      by-place InTable (λ _. tt) (λ e _. few t e)
+      by-place Tabled (λ _. tt) (λ e _. few t e)
       (λ b _ _. omega (arith, few (neighbourAbove m t) (tabled-at _ (b .second)), b .next))
 
   periods-by-row : (printed : ℕ → ℕ) (list : List ℕ) →
       ((t : ℕ) → hasRow m t ≡ true → getD list (row t) 0 ≡ printed t) →
       ((t : ℕ) → among (m .periods) t ≡ true → printed t ≡ t) →
-      periodsAt list (place first m row t) ≡ rowPeriodsBy m printed t
+      periodsFound list (place first m row t) ≡ rowPeriodsBy m printed t
   unfolding rowPeriodsBy
   periods-by-row printed list reads same =
       let at : (t : ℕ) → among (m .periods) t ≡ true → getD list (row t) 0 ≡ t =
       λ t e. reads t (tabled-at t e) ∙ same t e in
-      by-place (λ c. periodsAt list c ≡ rowPeriodsBy m printed t) (λ e. rw e refl)
+      by-place (λ c. periodsFound list c ≡ rowPeriodsBy m printed t) (λ e. rw e refl)
       (λ e ok. rw (ok, e, reads t e) refl)
       (λ b e ok. rw (ok, e, ← b .next, at _ (b .first), at _ (b .second)) refl)
 
-pub idriss-in-table : (t : ℕ) → InTable (idrissPlace t)
+pub idriss-in-table : (t : ℕ) → Tabled (idrissPlace t)
 unfolding idrissPlace
 idriss-in-table t = in-table 0 idriss idrissRow idriss-listed idriss-row t
 
-pub boore-atkinson-in-table : (t : ℕ) → InTable (booreAtkinsonPlace t)
+pub boore-atkinson-in-table : (t : ℕ) → Tabled (booreAtkinsonPlace t)
 unfolding booreAtkinsonPlace
 boore-atkinson-in-table t = in-table 1 booreAtkinson booreAtkinsonRow boore-atkinson-listed boore-atkinson-row t
 
-pub idriss-periods : (t : ℕ) → periodsAt (idriss .periods) (idrissPlace t) ≡ rowPeriodsBy idriss idrissPrinted t
+pub idriss-periods : (t : ℕ) → periodsFound (idriss .periods) (idrissPlace t) ≡ rowPeriodsBy idriss idrissPrinted t
 unfolding idrissPlace
 idriss-periods t =
     periods-by-row 0 idriss idrissRow idriss-listed idriss-row t idrissPrinted (idriss .periods) idriss-printed
     printed-itself
 
 pub boore-atkinson-periods : (t : ℕ) →
-    periodsAt (0 ∷ booreAtkinson .periods) (booreAtkinsonPlace t) ≡ rowPeriodsBy booreAtkinson (λ t. t) t
+    periodsFound (0 ∷ booreAtkinson .periods) (booreAtkinsonPlace t) ≡ rowPeriodsBy booreAtkinson (λ t. t) t
 unfolding booreAtkinsonPlace
 boore-atkinson-periods t =
     periods-by-row 1 booreAtkinson booreAtkinsonRow boore-atkinson-listed boore-atkinson-row t (λ t. t)

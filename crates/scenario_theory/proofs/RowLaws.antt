@@ -13,8 +13,8 @@ use Rattle.toolbox_theory.specs.Lists.{among, countBelow}
 use Rattle.toolbox_theory.proofs.Tests.{is-true, each, by-test, allBelow, below}
 use Rattle.toolbox_theory.proofs.ListLaws.{Missed, earlier, missed, neither, all, all-at, rising, Around, around}
 use Rattle.toolbox_theory.proofs.ListLaws.{among-at, between-places, greatest-below, least-above}
-use Rattle.scenario_theory.specs.declared.PlaceCheck.{PlaceCheck}
-use Rattle.scenario_theory.specs.declared.PlaceCheck.the-variants as C
+use Rattle.scenario_theory.specs.declared.Lookup.{Lookup}
+use Rattle.scenario_theory.specs.declared.Lookup.the-variants as L
 use Rattle.scenario_theory.specs.declared.Place.the-variants as P
 use Rattle.scenario_theory.specs.Checks.{_when_, unlessRefused}
 use Rattle.scenario_theory.specs.Refusal.{Limits, idriss, booreAtkinson, answeredPeriods, beyondPeriods}
@@ -36,15 +36,15 @@ boore-atkinson-row period e =
 -- ---- the place of a period
 
 -- a look-up gave row k
-abbrev isRow : ℕ → PlaceCheck → Bool
-isRow k (C.Accepted (P.Row j)) = eqb j k
-isRow k (C.Accepted (P.Between j)) = false
-isRow k (C.Refused j) = false
+abbrev isRow : ℕ → Lookup → Bool
+isRow k (L.Found (P.Row j)) = eqb j k
+isRow k (L.Found (P.Between j)) = false
+isRow k L.Outside = false
 
-row-is : (k : ℕ) (c : PlaceCheck) → T (isRow k c) → c ≡ C.Accepted (P.Row k)
-row-is k (C.Accepted (P.Row j)) t = ap (λ i. C.Accepted (P.Row i)) (eqb→eq j k t)
-row-is k (C.Accepted (P.Between j)) t = absurd t
-row-is k (C.Refused j) t = absurd t
+row-is : (k : ℕ) (c : Lookup) → T (isRow k c) → c ≡ L.Found (P.Row k)
+row-is k (L.Found (P.Row j)) t = ap (λ i. L.Found (P.Row i)) (eqb→eq j k t)
+row-is k (L.Found (P.Between j)) t = absurd t
+row-is k L.Outside t = absurd t
 
 -- in the tables of a model with the limits m, the first of whose periods has row `first`, and t row `row t`
 module _ (first : ℕ) (m : Limits) (row : ℕ → ℕ) where
@@ -52,8 +52,8 @@ module _ (first : ℕ) (m : Limits) (row : ℕ → ℕ) where
   count t = countBelow (m .periods) t
 
   -- by counting
-  abbrev pub place : ℕ → PlaceCheck
-  place t = cond (eqb t 0) (C.Accepted (P.Row 0)) (placeAmong first (m .periods) t)
+  abbrev pub place : ℕ → Lookup
+  place t = cond (eqb t 0) (L.Found (P.Row 0)) (placeAmong first (m .periods) t)
 
   -- what is computed once of the list
   pub record Listed : Type 0 where
@@ -140,7 +140,7 @@ module _ (first : ℕ) (m : Limits) (row : ℕ → ℕ) where
 
     -- and the place by counting is that of the definitions
     abbrev Placed : Bool → Type 0
-    Placed outside = place t ≡ unlessRefused (6 when outside) (C.Accepted (placeBy m row t)) (C.Refused 6)
+    Placed outside = place t ≡ unlessRefused (6 when outside) (L.Found (placeBy m row t)) L.Outside
 
     untabled : (outside : Bool) → hasRow m t ≡ false → beyondPeriods t ≡ outside → Placed outside
     unfolding placeAmong
@@ -150,11 +150,11 @@ module _ (first : ℕ) (m : Limits) (row : ℕ → ℕ) where
         let before = below-is none e in
         let k = number (n - 1) (omega (arith, h)) in
         rw (not-in .0, not-in .1, lt-ltb 0 n (h .0), lt-ltb n (length (m .periods)) (h .1), before, k)
-        (ap (λ i. C.Accepted (P.Between i)) (omega (arith, h .0)))
+        (ap (λ i. L.Found (P.Between i)) (omega (arith, h .0)))
     untabled true none e =
         let not-in = neither (eqb t 0) (among (m .periods) t) none in
         rw (not-in .0, not-in .1)
-        (by-test (ltb 0 n && ltb n (length (m .periods))) (λ c. c ≡ C.Refused 6)
+        (by-test (ltb 0 n && ltb n (length (m .periods))) (λ c. c ≡ L.Outside)
         (λ q. absurd (outside-inside e (each (ltb 0 n) (ltb n (length (m .periods))) (ltb→lt _ _) (ltb→lt _ _) q)))
         (λ _. refl))
 
@@ -170,10 +170,10 @@ module _ (first : ℕ) (m : Limits) (row : ℕ → ℕ) where
     placed = by-tabled (hasRow m t) refl
 
   -- the place of a period that is neither 0 nor in the list
-  pub in-no-row : (t : ℕ) {n : ℕ} {c : PlaceCheck} → Missed (Unit {0}) (0 ∷ m .periods) t →
+  pub in-no-row : (t : ℕ) {n : ℕ} {c : Lookup} → Missed (Unit {0}) (0 ∷ m .periods) t →
       n ≡ countBelow (m .periods) t →
-      c ≡ cond (ltb 0 n && ltb n (length (m .periods))) (C.Accepted (P.Between (first + n - 1))) (C.Refused 6) →
-      c ≡ cond (eqb t 0) (C.Accepted (P.Row 0)) (placeAmong first (m .periods) t)
+      c ≡ cond (ltb 0 n && ltb n (length (m .periods))) (L.Found (P.Between (first + n - 1))) L.Outside →
+      c ≡ cond (eqb t 0) (L.Found (P.Row 0)) (placeAmong first (m .periods) t)
   unfolding placeAmong
   in-no-row t other count e =
       let before = Unit {0} × (t ≡ 0 → ⊥) in

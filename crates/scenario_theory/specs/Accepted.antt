@@ -12,15 +12,17 @@ use Rattle.scenario_theory.specs.declared.Rupture.the-variants as R
 use Rattle.scenario_theory.specs.declared.Projection.{Projection}
 use Rattle.scenario_theory.specs.declared.Projection.the-variants as P
 use Rattle.scenario_theory.specs.declared.Place.{Place}
-use Rattle.scenario_theory.specs.declared.PlaceCheck.{PlaceCheck}
-use Rattle.scenario_theory.specs.declared.PlaceCheck.the-variants as C
+use Rattle.scenario_theory.specs.declared.Lookup.{Lookup}
+use Rattle.scenario_theory.specs.declared.Lookup.the-variants as L
 use Rattle.scenario_theory.specs.declared.Basis.{Basis}
 use Rattle.scenario_theory.specs.declared.Basis.the-variants as B
 use Rattle.scenario_theory.specs.declared.Check.{Check}
 use Rattle.scenario_theory.specs.declared.Check.the-variants as K
+use Rattle.scenario_theory.specs.declared.RowPeriods.{RowPeriods}
+use Rattle.scenario_theory.specs.declared.RowPeriods.the-variants as Q
 use Rattle.scenario_theory.specs.Checks.{unlessRefused}
 use Rattle.scenario_theory.specs.Refusal.{Limits, idriss, booreAtkinson, beyondPeriods, refusalBy, refusalOf}
-use Rattle.scenario_theory.specs.Rows.{idrissRow, booreAtkinsonRow, placeBy}
+use Rattle.scenario_theory.specs.Rows.{idrissRow, booreAtkinsonRow, placeBy, rowList, periodsAt, InTable}
 
 -- the scenario that has the fields
 abbrev pub scenarioWith : ℕ → ℕ → Rupture → ℕ → ℕ → ℕ → Projection → Scenario
@@ -37,9 +39,15 @@ scenarioWith model magnitude rupture velocity mechanism period projection =
 
 -- ---- the checks
 
--- 2 to 6 by the limits of a model, with the place of the period by the rows of its tables
-unfoldable pub checkBy : Limits → (ℕ → ℕ) → Scenario → PlaceCheck
-checkBy m row s = unlessRefused (refusalBy m s) (C.Accepted (placeBy m row (s .period))) (C.Refused (refusalBy m s))
+-- 2 to 6 by the limits of a model, with what an answer rests on by the place of the period
+unfoldable pub checkBy : Limits → (ℕ → ℕ) → (Place → Basis) → Scenario → Check
+checkBy m row basis s =
+    unlessRefused (refusalBy m s) (K.Accepted (basis (placeBy m row (s .period)))) (K.Refused (refusalBy m s))
+
+-- the last of them, by a look-up
+abbrev pub basedOn : (Place → Basis) → Lookup → Check
+basedOn basis (L.Found p) = K.Accepted (basis p)
+basedOn basis L.Outside = K.Refused 6
 
 -- what an answer at a period rests on, by each model: there is nothing where its distance is absent, as 9 says
 abbrev pub onRupture : Rupture → ℕ → Check
@@ -54,20 +62,20 @@ onProjection (P.At d) T = K.Accepted (B.BooreAtkinson d (placeBy booreAtkinson b
 unfoldable pub basisOf : Scenario → Check
 basisOf s = cond (eqb (s .model) 1) (onRupture (s .rupture) (s .period)) (onProjection (s .projection) (s .period))
 
--- the same with the place that a model's checks have looked up
-abbrev pub basedOn : (Place → Basis) → PlaceCheck → Check
-basedOn basis (C.Accepted p) = K.Accepted (basis p)
-basedOn basis (C.Refused k) = K.Refused k
-
 -- 9 for the distance, 13, and 1 to 6, with what the answer rests on
 unfoldable pub checkOf : Scenario → Check
 checkOf s = unlessRefused (refusalOf s) (basisOf s) (K.Refused (refusalOf s))
 
--- the place alone
-abbrev pub placeFound : Check → PlaceCheck
-placeFound (K.Accepted (B.Idriss d p)) = C.Accepted p
-placeFound (K.Accepted (B.BooreAtkinson d p)) = C.Accepted p
-placeFound (K.Refused k) = C.Refused k
+-- the periods of the rows that they have found, and that the tables have these
+abbrev pub periodsOn : Check → RowPeriods
+periodsOn (K.Accepted (B.Idriss d p)) = periodsAt (rowList 1) p
+periodsOn (K.Accepted (B.BooreAtkinson d p)) = periodsAt (rowList 2) p
+periodsOn (K.Refused k) = Q.Refused k
+
+abbrev pub InTables : Check → Type 0
+InTables (K.Accepted (B.Idriss d p)) = InTable p
+InTables (K.Accepted (B.BooreAtkinson d p)) = InTable p
+InTables (K.Refused k) = Unit {0}
 
 -- a scenario that is accepted but for its model and its period
 abbrev pub plainScenario : ℕ → ℕ → Scenario

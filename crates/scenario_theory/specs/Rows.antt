@@ -8,8 +8,8 @@ use lib.ListN.{length, getD}
 use Rattle.toolbox_theory.specs.Lists.{among, placeIn, countBelow}
 use Rattle.scenario_theory.specs.declared.Place.{Place}
 use Rattle.scenario_theory.specs.declared.Place.the-variants as P
-use Rattle.scenario_theory.specs.declared.PlaceCheck.{PlaceCheck}
-use Rattle.scenario_theory.specs.declared.PlaceCheck.the-variants as C
+use Rattle.scenario_theory.specs.declared.Lookup.{Lookup}
+use Rattle.scenario_theory.specs.declared.Lookup.the-variants as L
 use Rattle.scenario_theory.specs.declared.RowPeriods.{RowPeriods}
 use Rattle.scenario_theory.specs.declared.RowPeriods.the-variants as R
 use Rattle.scenario_theory.specs.Refusal.{Limits, idriss, booreAtkinson}
@@ -43,30 +43,28 @@ pub record BetweenRows (m : Limits) (row : ℕ → ℕ) (T : ℕ) : Type 0 where
 -- ---- the same by counting, as the code has it
 
 -- among the periods of a list that rises, the first of which has row `first`
-unfoldable pub placeAmong : ℕ → List ℕ → ℕ → PlaceCheck
+unfoldable pub placeAmong : ℕ → List ℕ → ℕ → Lookup
 placeAmong first periods T =
     let n : ℕ = countBelow periods T in
-    cond (among periods T) (C.Accepted (P.Row (first + n)))
-    (cond (ltb 0 n && ltb n (length periods)) (C.Accepted (P.Between (first + n - 1))) (C.Refused 6))
+    cond (among periods T) (L.Found (P.Row (first + n)))
+    (cond (ltb 0 n && ltb n (length periods)) (L.Found (P.Between (first + n - 1))) L.Outside)
 
-unfoldable pub idrissPlace : ℕ → PlaceCheck
-idrissPlace T = cond (eqb T 0) (C.Accepted (P.Row 0)) (placeAmong 0 (idriss .periods) T)
+unfoldable pub idrissPlace : ℕ → Lookup
+idrissPlace T = cond (eqb T 0) (L.Found (P.Row 0)) (placeAmong 0 (idriss .periods) T)
 
 -- the row PGA, row 0, is no neighbour of any period
-unfoldable pub booreAtkinsonPlace : ℕ → PlaceCheck
-booreAtkinsonPlace T = cond (eqb T 0) (C.Accepted (P.Row 0)) (placeAmong 1 (booreAtkinson .periods) T)
+unfoldable pub booreAtkinsonPlace : ℕ → Lookup
+booreAtkinsonPlace T = cond (eqb T 0) (L.Found (P.Row 0)) (placeAmong 1 (booreAtkinson .periods) T)
 
 -- the periods of the rows of Idriss's tables for the model 1, of Boore-Atkinson's for any other
 abbrev pub rowList : ℕ → List ℕ
 rowList model = cond (eqb model 1) (idriss .periods) (0 ∷ booreAtkinson .periods)
 
 -- the periods of the rows of a place, by a list of the periods of the rows; and that the list has them
-abbrev pub periodsAt : List ℕ → PlaceCheck → RowPeriods
-periodsAt list (C.Accepted (P.Row k)) = R.Rows (getD list k 0) (getD list k 0)
-periodsAt list (C.Accepted (P.Between k)) = R.Rows (getD list k 0) (getD list (k + 1) 0)
-periodsAt list (C.Refused k) = R.Refused k
+abbrev pub periodsAt : List ℕ → Place → RowPeriods
+periodsAt list (P.Row k) = R.Rows (getD list k 0) (getD list k 0)
+periodsAt list (P.Between k) = R.Rows (getD list k 0) (getD list (k + 1) 0)
 
-abbrev pub InTable : PlaceCheck → Type 0
-InTable (C.Accepted (P.Row k)) = k < rowCount
-InTable (C.Accepted (P.Between k)) = k + 1 < rowCount
-InTable (C.Refused k) = Unit {0}
+abbrev pub InTable : Place → Type 0
+InTable (P.Row k) = k < rowCount
+InTable (P.Between k) = k + 1 < rowCount

@@ -41,10 +41,10 @@ pub enum Place {
     Between(u8),
 }
 
-// What the checks by the limits of one model come to: the place of the period, or the number of the first that fails.
-pub enum PlaceCheck {
-    Accepted(Place),
-    Refused(u8),
+// What a look-up of a period in the tables of a model finds.
+pub enum Lookup {
+    Found(Place),
+    Outside,
 }
 
 // What an answer rests on: the model, the distance that it reads, and the place of the period in its tables.

@@ -9,6 +9,6 @@ tell-place-spec =
     tie.close
     (tie.spec
     (λ c. search needs) (λ c. search needs) (λ c. search needs) (λ c. search needs)
-    (λ c. rw (c .before .before .before .before .c .given .1, c .before .p .given .1) refl)
-    (λ c. rw (c .before .before .before .before .c .given .1, c .before .p2 .given .1) refl)
+    (λ c. rw (c .before .before .before .before .l .given .1, c .before .p .given .1) refl)
+    (λ c. rw (c .before .before .before .before .l .given .1, c .before .p2 .given .1) refl)
     (λ c. rw (c .enum-told .given .1) refl))

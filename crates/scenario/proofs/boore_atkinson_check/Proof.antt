@@ -12,36 +12,37 @@ boore-atkinson-check-spec =
     tie.close
     (tie.spec
     (λ c κs. search needs)
-    (λ c. fails-2 booreAtkinson booreAtkinsonRow _ (sym (c .before .outside .ensures) ∙ c .if1 .taken))
+    (λ c. fails-2 booreAtkinson booreAtkinsonRow _ _ (sym (c .before .outside .ensures) ∙ c .if1 .taken))
     (λ c κs. search needs)
     (λ c.
     let two = c .before .before in
-    fails-3 booreAtkinson booreAtkinsonRow _ (sym (two .before .outside .ensures) ∙ two .if1 .left)
+    fails-3 booreAtkinson booreAtkinsonRow _ _ (sym (two .before .outside .ensures) ∙ two .if1 .left)
     (sym (c .before .outside2 .ensures) ∙ c .if2 .taken))
     (λ c κs. search needs)
     (λ c.
     let three = c .before .before in
     let two = three .before .before in
-    fails-4 booreAtkinson booreAtkinsonRow _ (sym (two .before .outside .ensures) ∙ two .if1 .left)
+    fails-4 booreAtkinson booreAtkinsonRow _ _ (sym (two .before .outside .ensures) ∙ two .if1 .left)
     (sym (three .before .outside2 .ensures) ∙ three .if2 .left) (sym (c .before .outside3 .ensures) ∙ c .if3 .taken))
     (λ c κs. search needs)
     (λ c.
     let four = c .before .before in
     let three = four .before .before in
     let two = three .before .before in
-    fails-5 booreAtkinson booreAtkinsonRow _ (sym (two .before .outside .ensures) ∙ two .if1 .left)
+    fails-5 booreAtkinson booreAtkinsonRow _ _ (sym (two .before .outside .ensures) ∙ two .if1 .left)
     (sym (three .before .outside2 .ensures) ∙ three .if2 .left)
     (sym (four .before .outside3 .ensures) ∙ four .if3 .left)
     (sym (c .before .unknown .ensures) ∙ c .if4 .taken))
-    (λ c κs. search needs)
+    (λ c κs. search needs) (λ c κs. search needs)
     (λ c.
-    let five = c .before in
+    let place = c .before in
+    let five = place .before in
     let four = five .before .before in
     let three = four .before .before in
     let two = three .before .before in
-    boore-atkinson-last (record {
+    c .boore-atkinson-basis .ensures ∙ boore-atkinson-last _ (record {
       two = sym (two .before .outside .ensures) ∙ two .if1 .left;
       three = sym (three .before .outside2 .ensures) ∙ three .if2 .left;
       four = sym (four .before .outside3 .ensures) ∙ four .if3 .left;
       five = sym (five .before .unknown .ensures) ∙ five .if4 .left;
-    }) (c .boore-atkinson-place .ensures)))
+    }) (place .boore-atkinson-place .ensures)))

@@ -22,20 +22,18 @@ near c = sym (c .before .projection-exceeds .ensures) ∙ c .if1 .left
 
 idriss-limits : tie.Need-returns-3
 idriss-limits c =
-    let d = c .before .before .before in
+    let d = c .before .before in
     let k = d .before .before in
-    c .idriss-basis .ensures ∙
     rw (k .match .keys1, d .rupture .given .1)
-    (idriss-checked _ _ _ _ _ _ (rw (d .rupture .given .1) at (near (k .before))) (c .before .idriss-check .ensures))
+    (idriss-checked _ _ _ _ _ _ (rw (d .rupture .given .1) at (near (k .before))) (c .idriss-check .ensures))
 
 boore-atkinson-limits : tie.Need-returns-5
 boore-atkinson-limits c =
-    let d = c .before .before .before in
+    let d = c .before .before in
     let k = d .before .before in
-    c .boore-atkinson-basis .ensures ∙
     rw (k .match .keys2, d .projection .given .1)
     (boore-atkinson-checked _ _ _ _ _ _ (rw (d .projection .given .1) at (near (k .before)))
-    (c .before .boore-atkinson-check .ensures))
+    (c .boore-atkinson-check .ensures))
 
 no-model : tie.Need-returns-6
 unfolding checkOf refusalOf lacksDistance projectionExceeds refusalByModel
@@ -49,7 +47,7 @@ check-spec =
     tie.close
     (tie.spec
     (λ c κs. search needs) thirteen
-    (λ c. search needs) (λ c. search needs) (λ c κs. search needs) (λ c κs. search needs)
-    (λ c. search needs) (λ c. search needs) (λ c κs. search needs) (λ c κs. search needs)
+    (λ c. search needs) (λ c. search needs) (λ c κs. search needs)
+    (λ c. search needs) (λ c. search needs) (λ c κs. search needs)
     (λ c. rw (c .before .before .match .keys1, c .enum-told .given .1) refl) idriss-limits
     (λ c. rw (c .before .before .match .keys2, c .enum-told2 .given .1) refl) boore-atkinson-limits no-model)
