@@ -35,8 +35,8 @@ fn first_row(place: Place) -> usize
     ensures { λ r. ⌜ r ≡ firstIn place ⌝ }
 {
     match place {
-        Place::Row(k) => k as usize,
-        Place::Between(k) => k as usize,
+        Place::Row(k) => k,
+        Place::Between(k) => k,
     }
 }
 
@@ -45,8 +45,8 @@ fn last_row(place: Place) -> usize
     ensures { λ r. ⌜ r ≡ lastIn place ⌝ }
 {
     match place {
-        Place::Row(k) => k as usize,
-        Place::Between(k) => k as usize + 1,
+        Place::Row(k) => k,
+        Place::Between(k) => k + 1,
     }
 }
 
@@ -112,22 +112,14 @@ fn by_idriss(
         mechanism,
     );
     match place {
-        Place::Row(k) => at_idriss_row(
-            magnitude,
-            distance,
-            velocity,
-            mechanism,
-            period,
-            k as usize,
-            rows,
-        ),
+        Place::Row(k) => at_idriss_row(magnitude, distance, velocity, mechanism, period, k, rows),
         Place::Between(k) => between_idriss(
             magnitude,
             distance,
             velocity,
             mechanism,
             period,
-            k as usize,
+            k,
             rows,
         ),
     }
@@ -202,7 +194,7 @@ fn by_boore_atkinson(
             velocity,
             mechanism,
             period,
-            k as usize,
+            k,
             rows,
         ),
         Place::Between(k) => between_boore_atkinson(
@@ -211,7 +203,7 @@ fn by_boore_atkinson(
             velocity,
             mechanism,
             period,
-            k as usize,
+            k,
             rows,
         ),
     }

@@ -7,7 +7,6 @@ use lib.IntN.{pos}
 use Rattle.interval_theory.specs.declared.SignedEnds.{SignedEnds}
 use Rattle.logarithm_theory.specs.Evaluation.{lnOf, rootOf}
 use Rattle.scenario_theory.specs.declared.Scenario.{Scenario}
-use Rattle.scenario_theory.specs.declared.Place.the-variants as P
 use Rattle.scenario_theory.specs.declared.Lookup.{Lookup}
 use Rattle.scenario_theory.specs.declared.Lookup.the-variants as L
 use Rattle.scenario_theory.specs.declared.Rupture.the-variants as R
@@ -85,8 +84,8 @@ probedNonlinear k v low high =
 -- ---- where a period stands
 
 abbrev pub toldPlace : Lookup → ProbedPlace
-toldPlace (L.Found (P.Row k)) = record { kind = 0; row = k }
-toldPlace (L.Found (P.Between k)) = record { kind = 1; row = k }
+toldPlace (L.Row k) = record { kind = 0; row = k }
+toldPlace (L.Between k) = record { kind = 1; row = k }
 toldPlace L.Outside = record { kind = 2; row = 0 }
 
 unfoldable pub probedPlace : ℕ → ℕ → ProbedPlace

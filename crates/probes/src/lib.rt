@@ -79,16 +79,8 @@ fn tell_place(l: Lookup) -> ProbedPlace
     ensures { λ r. ⌜ r ≡ toldPlace l ⌝ }
 {
     match l {
-        Lookup::Found(p) => match p {
-            Place::Row(k) => ProbedPlace {
-                kind: 0,
-                row: k as usize,
-            },
-            Place::Between(k) => ProbedPlace {
-                kind: 1,
-                row: k as usize,
-            },
-        },
+        Lookup::Row(k) => ProbedPlace { kind: 0, row: k },
+        Lookup::Between(k) => ProbedPlace { kind: 1, row: k },
         Lookup::Outside => ProbedPlace { kind: 2, row: 0 },
     }
 }
@@ -236,7 +228,7 @@ fn idriss_sigma(p: Place, period: u16, magnitude: u16) -> SignedEnds
     ensures { λ r. ⌜ (r ≡ sigmaOf period magnitude) × SmallerThan (2 ^ 53) r ⌝ }
 {
     match p {
-        Place::Row(k) => idriss_sigma::sigma(k as usize, period, magnitude),
+        Place::Row(k) => idriss_sigma::sigma(k, period, magnitude),
         Place::Between(_) => idriss_sigma::sigma_between(period, magnitude),
     }
 }

@@ -16,6 +16,7 @@ use scenario_rows::idriss_place;
 pub use scenario_theory::Basis;
 pub use scenario_theory::Check;
 use scenario_theory::Lookup;
+use scenario_theory::Place;
 pub use scenario_theory::Projection;
 pub use scenario_theory::ProjectionDistance;
 pub use scenario_theory::Rupture;
@@ -40,7 +41,8 @@ fn idriss_basis(distance: RuptureDistance, lookup: Lookup) -> Check
     ensures { λ r. ⌜ r ≡ basedOn (B.Idriss distance) lookup ⌝ }
 {
     match lookup {
-        Lookup::Found(place) => Check::Accepted(Basis::Idriss(distance, place)),
+        Lookup::Row(k) => Check::Accepted(Basis::Idriss(distance, Place::Row(k))),
+        Lookup::Between(k) => Check::Accepted(Basis::Idriss(distance, Place::Between(k))),
         Lookup::Outside => Check::Refused(6),
     }
 }
@@ -50,7 +52,8 @@ fn boore_atkinson_basis(distance: ProjectionDistance, lookup: Lookup) -> Check
     ensures { λ r. ⌜ r ≡ basedOn (B.BooreAtkinson distance) lookup ⌝ }
 {
     match lookup {
-        Lookup::Found(place) => Check::Accepted(Basis::BooreAtkinson(distance, place)),
+        Lookup::Row(k) => Check::Accepted(Basis::BooreAtkinson(distance, Place::Row(k))),
+        Lookup::Between(k) => Check::Accepted(Basis::BooreAtkinson(distance, Place::Between(k))),
         Lookup::Outside => Check::Refused(6),
     }
 }

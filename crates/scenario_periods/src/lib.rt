@@ -34,13 +34,10 @@ fn periods_at(model: u8, place: Place) -> RowPeriods
 {
     match place {
         Place::Row(k) => {
-            let t = period_of_row(model, k as usize);
+            let t = period_of_row(model, k);
             RowPeriods::Rows(t, t)
         }
-        Place::Between(k) => RowPeriods::Rows(
-            period_of_row(model, k as usize),
-            period_of_row(model, k as usize + 1),
-        ),
+        Place::Between(k) => RowPeriods::Rows(period_of_row(model, k), period_of_row(model, k + 1)),
     }
 }
 

@@ -6,12 +6,10 @@ ghost use Prim.Native.Nat.{_+_, _-_, _≤_, _<_};
 ghost use lib.Dec.{ltb};
 ghost use lib.ListN.{getD};
 ghost use Rattle.toolbox_theory.specs.Lists.{countBelow};
-ghost use Rattle.scenario_theory.specs.declared.Place.the-variants as P;
 ghost use Rattle.scenario_theory.specs.declared.Lookup.the-variants as L;
 ghost use Rattle.scenario_theory.specs.Refusal.{idriss, booreAtkinson};
 ghost use Rattle.scenario_theory.specs.Rows.{rowCount, idrissPlace, booreAtkinsonPlace};
 use scenario_theory::Lookup;
-use scenario_theory::Place;
 
 // Idriss's tabled periods, in thousandths of a second; Boore-Atkinson has the same without 40.
 const PERIODS: [u16; 22] = [
@@ -46,11 +44,11 @@ fn periods() -> [u16; 22]
 }
 
 // How many of Idriss's periods are below a period.
-fn count_below(period: u16) -> u8
+fn count_below(period: u16) -> usize
     ensures { λ n. ⌜ (n ≡ countBelow (idriss .periods) period) × (n ≤ 22) ⌝ }
 {
     let t = periods();
-    let mut n: u8 = 0;
+    let mut n: usize = 0;
     let mut i: usize = 0;
     while i < 22 {
         if t[i] < period {
@@ -63,21 +61,21 @@ fn count_below(period: u16) -> u8
 
 // The place of a period that has no row, after n of so many periods, the first of which has row `first`; none before
 // all of them or after.
-fn after(n: u8, count: u8, first: u8) -> Lookup
+fn after(n: usize, count: usize, first: usize) -> Lookup
     requires { ⌜ (n ≤ 22) × (first ≤ 1) ⌝ }
-    ensures { λ r. ⌜ r ≡ cond (ltb 0 n && ltb n count) (L.Found (P.Between (first + n - 1))) L.Outside ⌝ }
+    ensures { λ r. ⌜ r ≡ cond (ltb 0 n && ltb n count) (L.Between (first + n - 1)) L.Outside ⌝ }
 {
     if n == 0 {
         return Lookup::Outside;
     }
     if n < count {
-        return Lookup::Found(Place::Between(first + n - 1));
+        return Lookup::Between(first + n - 1);
     }
     Lookup::Outside
 }
 
 // How many of Boore-Atkinson's periods are below a period.
-fn count_below_without_40(period: u16) -> u8
+fn count_below_without_40(period: u16) -> usize
     ensures { λ n. ⌜ (n ≡ countBelow (booreAtkinson .periods) period) × (n ≤ 22) ⌝ }
 {
     let n = count_below(period);
@@ -92,29 +90,29 @@ pub fn idriss_place(period: u16) -> Lookup
     ensures { λ r. ⌜ r ≡ idrissPlace period ⌝ }
 {
     match period {
-        0 => Lookup::Found(Place::Row(0)),
-        10 => Lookup::Found(Place::Row(0)),
-        20 => Lookup::Found(Place::Row(1)),
-        30 => Lookup::Found(Place::Row(2)),
-        40 => Lookup::Found(Place::Row(3)),
-        50 => Lookup::Found(Place::Row(4)),
-        75 => Lookup::Found(Place::Row(5)),
-        100 => Lookup::Found(Place::Row(6)),
-        150 => Lookup::Found(Place::Row(7)),
-        200 => Lookup::Found(Place::Row(8)),
-        250 => Lookup::Found(Place::Row(9)),
-        300 => Lookup::Found(Place::Row(10)),
-        400 => Lookup::Found(Place::Row(11)),
-        500 => Lookup::Found(Place::Row(12)),
-        750 => Lookup::Found(Place::Row(13)),
-        1_000 => Lookup::Found(Place::Row(14)),
-        1_500 => Lookup::Found(Place::Row(15)),
-        2_000 => Lookup::Found(Place::Row(16)),
-        3_000 => Lookup::Found(Place::Row(17)),
-        4_000 => Lookup::Found(Place::Row(18)),
-        5_000 => Lookup::Found(Place::Row(19)),
-        7_500 => Lookup::Found(Place::Row(20)),
-        10_000 => Lookup::Found(Place::Row(21)),
+        0 => Lookup::Row(0),
+        10 => Lookup::Row(0),
+        20 => Lookup::Row(1),
+        30 => Lookup::Row(2),
+        40 => Lookup::Row(3),
+        50 => Lookup::Row(4),
+        75 => Lookup::Row(5),
+        100 => Lookup::Row(6),
+        150 => Lookup::Row(7),
+        200 => Lookup::Row(8),
+        250 => Lookup::Row(9),
+        300 => Lookup::Row(10),
+        400 => Lookup::Row(11),
+        500 => Lookup::Row(12),
+        750 => Lookup::Row(13),
+        1_000 => Lookup::Row(14),
+        1_500 => Lookup::Row(15),
+        2_000 => Lookup::Row(16),
+        3_000 => Lookup::Row(17),
+        4_000 => Lookup::Row(18),
+        5_000 => Lookup::Row(19),
+        7_500 => Lookup::Row(20),
+        10_000 => Lookup::Row(21),
         _ => after(count_below(period), 22, 0),
     }
 }
@@ -124,28 +122,28 @@ pub fn boore_atkinson_place(period: u16) -> Lookup
     ensures { λ r. ⌜ r ≡ booreAtkinsonPlace period ⌝ }
 {
     match period {
-        0 => Lookup::Found(Place::Row(0)),
-        10 => Lookup::Found(Place::Row(1)),
-        20 => Lookup::Found(Place::Row(2)),
-        30 => Lookup::Found(Place::Row(3)),
-        50 => Lookup::Found(Place::Row(4)),
-        75 => Lookup::Found(Place::Row(5)),
-        100 => Lookup::Found(Place::Row(6)),
-        150 => Lookup::Found(Place::Row(7)),
-        200 => Lookup::Found(Place::Row(8)),
-        250 => Lookup::Found(Place::Row(9)),
-        300 => Lookup::Found(Place::Row(10)),
-        400 => Lookup::Found(Place::Row(11)),
-        500 => Lookup::Found(Place::Row(12)),
-        750 => Lookup::Found(Place::Row(13)),
-        1_000 => Lookup::Found(Place::Row(14)),
-        1_500 => Lookup::Found(Place::Row(15)),
-        2_000 => Lookup::Found(Place::Row(16)),
-        3_000 => Lookup::Found(Place::Row(17)),
-        4_000 => Lookup::Found(Place::Row(18)),
-        5_000 => Lookup::Found(Place::Row(19)),
-        7_500 => Lookup::Found(Place::Row(20)),
-        10_000 => Lookup::Found(Place::Row(21)),
+        0 => Lookup::Row(0),
+        10 => Lookup::Row(1),
+        20 => Lookup::Row(2),
+        30 => Lookup::Row(3),
+        50 => Lookup::Row(4),
+        75 => Lookup::Row(5),
+        100 => Lookup::Row(6),
+        150 => Lookup::Row(7),
+        200 => Lookup::Row(8),
+        250 => Lookup::Row(9),
+        300 => Lookup::Row(10),
+        400 => Lookup::Row(11),
+        500 => Lookup::Row(12),
+        750 => Lookup::Row(13),
+        1_000 => Lookup::Row(14),
+        1_500 => Lookup::Row(15),
+        2_000 => Lookup::Row(16),
+        3_000 => Lookup::Row(17),
+        4_000 => Lookup::Row(18),
+        5_000 => Lookup::Row(19),
+        7_500 => Lookup::Row(20),
+        10_000 => Lookup::Row(21),
         _ => after(count_below_without_40(period), 21, 1),
     }
 }

@@ -16,6 +16,7 @@ use Rattle.scenario_theory.specs.declared.Rupture.the-variants as R
 use Rattle.scenario_theory.specs.declared.Projection.{Projection}
 use Rattle.scenario_theory.specs.declared.Projection.the-variants as P
 use Rattle.scenario_theory.specs.declared.Place.{Place}
+use Rattle.scenario_theory.specs.declared.Place.the-variants as Q
 use Rattle.scenario_theory.specs.declared.Lookup.{Lookup}
 use Rattle.scenario_theory.specs.declared.Lookup.the-variants as L
 use Rattle.scenario_theory.specs.declared.Basis.{Basis}
@@ -27,7 +28,7 @@ use Rattle.scenario_theory.specs.Distances.{ruptureNumber, projectionNum
 use Rattle.scenario_theory.specs.Refusal.{Limits, idriss, booreAtkinson, beyondPeriods, refusalBy}
 use Rattle.scenario_theory.specs.Refusal.{refusalByModel, lacksDistance, projectionExceeds, refusalOf}
 use Rattle.scenario_theory.specs.Rows.{placeBy, idrissRow, booreAtkinsonRow, idrissPlace, booreAtkinsonPlace}
-use Rattle.scenario_theory.specs.Rows.{rowList}
+use Rattle.scenario_theory.specs.Rows.{rowList, found}
 use Rattle.scenario_theory.specs.Neighbours.{rowPeriodsOf}
 use Rattle.scenario_theory.specs.Accepted.{scenarioWith, checkBy, basisOf, basedOn, checkOf, periodsOn}
 use Rattle.scenario_theory.specs.Accepted.{InTables, plainScenario, RestsOn}
@@ -41,10 +42,11 @@ use Rattle.scenario_theory.proofs.PeriodLaws.{periodsFound, Tabled, boo
 
 -- the last of them, by the test of the period
 last-number : (basis : Place → Basis) (p : Place) (b : Bool) →
-    basedOn basis (unlessRefused (6 when b) (L.Found p) L.Outside) ≡
+    basedOn basis (unlessRefused (6 when b) (found p) L.Outside) ≡
     unlessRefused (6 when b) (K.Accepted (basis p)) (K.Refused (6 when b))
 last-number basis p true = refl
-last-number basis p false = refl
+last-number basis (Q.Row k) false = refl
+last-number basis (Q.Between k) false = refl
 
 module _ (m : Limits) (row : ℕ → ℕ) (basis : Place → Basis) (s : Scenario) where
   pub fails-2 : beyond (m .magnitude) (s .magnitude) ≡ true → K.Refused 2 ≡ checkBy m row basis s
@@ -68,7 +70,7 @@ module _ (m : Limits) (row : ℕ → ℕ) (basis : Place → Basis) (s : Scenari
 
         -- and the last, the period's
         last-check : {l : Lookup} → not (among (m .mechanisms) (s .mechanism)) ≡ false →
-            l ≡ unlessRefused (6 when beyondPeriods (s .period)) (L.Found (placeBy m row (s .period))) L.Outside →
+            l ≡ unlessRefused (6 when beyondPeriods (s .period)) (found (placeBy m row (s .period))) L.Outside →
             basedOn basis l ≡ checkBy m row basis s
         unfolding checkBy refusalBy
         last-check five h =
@@ -135,12 +137,14 @@ LooksUp model T c = InTables c × (periodsOn c ≡ rowPeriodsOf model T)
 module _ (T : ℕ) where
   by-idriss : (l : Lookup) → Tabled l × (periodsFound (rowList 1) l ≡ rowPeriodsOf 1 T) →
       LooksUp 1 T (basedOn (B.Idriss (record { 0 = 0 })) l)
-  by-idriss (L.Found p) h = h
+  by-idriss (L.Row k) h = h
+  by-idriss (L.Between k) h = h
   by-idriss L.Outside h = h
 
   by-boore-atkinson : (l : Lookup) → Tabled l × (periodsFound (rowList 2) l ≡ rowPeriodsOf 2 T) →
       LooksUp 2 T (basedOn (B.BooreAtkinson (record { 0 = 0 })) l)
-  by-boore-atkinson (L.Found p) h = h
+  by-boore-atkinson (L.Row k) h = h
+  by-boore-atkinson (L.Between k) h = h
   by-boore-atkinson L.Outside h = h
 
   idriss-looks-up : LooksUp 1 T (checkOf (plainScenario 1 T))

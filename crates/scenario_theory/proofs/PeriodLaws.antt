@@ -17,19 +17,21 @@ use Rattle.scenario_theory.specs.Checks.{_when_, unlessRefused}
 use Rattle.scenario_theory.specs.Refusal.{Limits, idriss, booreAtkinson, beyondPeriods}
 use Rattle.scenario_theory.specs.Neighbours.{hasRow, neighbourBelow, neighbourAbove, idrissPrinted}
 use Rattle.scenario_theory.specs.Neighbours.{rowPeriodsBy}
-use Rattle.scenario_theory.specs.Rows.{BetweenRows, placeBy, idrissRow, booreAtkinsonRow, rowCount, idrissPlace}
+use Rattle.scenario_theory.specs.Rows.{BetweenRows, placeBy, idrissRow, booreAtkinsonRow, rowCount, found, idrissPlace}
 use Rattle.scenario_theory.specs.Rows.{booreAtkinsonPlace, periodsAt, InTable}
 use Rattle.scenario_theory.proofs.RowLaws.{Listed, place, placed, between-rows, idriss-row, boore-atkinson-row}
 use Rattle.scenario_theory.proofs.RowLaws.{idriss-listed, boore-atkinson-listed, idriss-printed}
 use Rattle.scenario_theory.proofs.RowLaws.{printed-itself, boore-atkinson-printed}
 
--- of a look-up: 6 where it finds nothing
+-- of a look-up
 abbrev pub periodsFound : List ℕ → Lookup → RowPeriods
-periodsFound list (L.Found p) = periodsAt list p
+periodsFound list (L.Row k) = periodsAt list (P.Row k)
+periodsFound list (L.Between k) = periodsAt list (P.Between k)
 periodsFound list L.Outside = R.Refused 6
 
 abbrev pub Tabled : Lookup → Type 0
-Tabled (L.Found p) = InTable p
+Tabled (L.Row k) = InTable (P.Row k)
+Tabled (L.Between k) = InTable (P.Between k)
 Tabled L.Outside = Unit {0}
 
 module _ (first : ℕ) (m : Limits) (row : ℕ → ℕ) (l : Listed first m row)
@@ -39,18 +41,18 @@ module _ (first : ℕ) (m : Limits) (row : ℕ → ℕ) (l : Listed first m row)
 
   -- what holds of the place by the definitions holds of that by counting
   by-place : (K : Lookup → Type 0) → (beyondPeriods t ≡ true → K L.Outside) →
-      (hasRow m t ≡ true → beyondPeriods t ≡ false → K (L.Found (P.Row (row t)))) →
+      (hasRow m t ≡ true → beyondPeriods t ≡ false → K (L.Row (row t))) →
       (BetweenRows m row t → hasRow m t ≡ false → beyondPeriods t ≡ false →
-      K (L.Found (P.Between (row (neighbourBelow m t))))) → K (place first m row t)
+      K (L.Between (row (neighbourBelow m t)))) → K (place first m row t)
   by-place K out at between = rw (placed first m row l t) (outside (beyondPeriods t) refl)
     where
       tabled : (b : Bool) → hasRow m t ≡ b → beyondPeriods t ≡ false →
-          K (L.Found (cond b (P.Row (row t)) (P.Between (row (neighbourBelow m t)))))
+          K (found (cond b (P.Row (row t)) (P.Between (row (neighbourBelow m t)))))
       tabled true e ok = at e ok
       tabled false e ok = between (between-rows first m row l t e ok) e ok
 
       outside : (b : Bool) → beyondPeriods t ≡ b →
-          K (unlessRefused (6 when b) (L.Found (placeBy m row t)) L.Outside)
+          K (unlessRefused (6 when b) (found (placeBy m row t)) L.Outside)
       outside true e = out e
       outside false e = tabled (hasRow m t) refl e
 

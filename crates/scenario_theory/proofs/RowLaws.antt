@@ -19,7 +19,7 @@ use Rattle.scenario_theory.specs.declared.Place.the-variants as P
 use Rattle.scenario_theory.specs.Checks.{_when_, unlessRefused}
 use Rattle.scenario_theory.specs.Refusal.{Limits, idriss, booreAtkinson, answeredPeriods, beyondPeriods}
 use Rattle.scenario_theory.specs.Neighbours.{hasRow, neighbourBelow, neighbourAbove, idrissPrinted}
-use Rattle.scenario_theory.specs.Rows.{BetweenRows, placeBy, idrissRow, booreAtkinsonRow, rowCount, placeAmong}
+use Rattle.scenario_theory.specs.Rows.{BetweenRows, placeBy, idrissRow, booreAtkinsonRow, rowCount, found, placeAmong}
 use Rattle.scenario_theory.proofs.RefusalLaws.{answered, not-answered}
 
 -- ---- the row of a tabled period
@@ -37,13 +37,13 @@ boore-atkinson-row period e =
 
 -- a look-up gave row k
 abbrev isRow : ℕ → Lookup → Bool
-isRow k (L.Found (P.Row j)) = eqb j k
-isRow k (L.Found (P.Between j)) = false
+isRow k (L.Row j) = eqb j k
+isRow k (L.Between j) = false
 isRow k L.Outside = false
 
-row-is : (k : ℕ) (c : Lookup) → T (isRow k c) → c ≡ L.Found (P.Row k)
-row-is k (L.Found (P.Row j)) t = ap (λ i. L.Found (P.Row i)) (eqb→eq j k t)
-row-is k (L.Found (P.Between j)) t = absurd t
+row-is : (k : ℕ) (c : Lookup) → T (isRow k c) → c ≡ L.Row k
+row-is k (L.Row j) t = ap L.Row (eqb→eq j k t)
+row-is k (L.Between j) t = absurd t
 row-is k L.Outside t = absurd t
 
 -- in the tables of a model with the limits m, the first of whose periods has row `first`, and t row `row t`
@@ -53,7 +53,7 @@ module _ (first : ℕ) (m : Limits) (row : ℕ → ℕ) where
 
   -- by counting
   abbrev pub place : ℕ → Lookup
-  place t = cond (eqb t 0) (L.Found (P.Row 0)) (placeAmong first (m .periods) t)
+  place t = cond (eqb t 0) (L.Row 0) (placeAmong first (m .periods) t)
 
   -- what is computed once of the list
   pub record Listed : Type 0 where
@@ -140,7 +140,7 @@ module _ (first : ℕ) (m : Limits) (row : ℕ → ℕ) where
 
     -- and the place by counting is that of the definitions
     abbrev Placed : Bool → Type 0
-    Placed outside = place t ≡ unlessRefused (6 when outside) (L.Found (placeBy m row t)) L.Outside
+    Placed outside = place t ≡ unlessRefused (6 when outside) (found (placeBy m row t)) L.Outside
 
     untabled : (outside : Bool) → hasRow m t ≡ false → beyondPeriods t ≡ outside → Placed outside
     unfolding placeAmong
@@ -150,7 +150,7 @@ module _ (first : ℕ) (m : Limits) (row : ℕ → ℕ) where
         let before = below-is none e in
         let k = number (n - 1) (omega (arith, h)) in
         rw (not-in .0, not-in .1, lt-ltb 0 n (h .0), lt-ltb n (length (m .periods)) (h .1), before, k)
-        (ap (λ i. L.Found (P.Between i)) (omega (arith, h .0)))
+        (ap L.Between (omega (arith, h .0)))
     untabled true none e =
         let not-in = neither (eqb t 0) (among (m .periods) t) none in
         rw (not-in .0, not-in .1)
@@ -172,8 +172,8 @@ module _ (first : ℕ) (m : Limits) (row : ℕ → ℕ) where
   -- the place of a period that is neither 0 nor in the list
   pub in-no-row : (t : ℕ) {n : ℕ} {c : Lookup} → Missed (Unit {0}) (0 ∷ m .periods) t →
       n ≡ countBelow (m .periods) t →
-      c ≡ cond (ltb 0 n && ltb n (length (m .periods))) (L.Found (P.Between (first + n - 1))) L.Outside →
-      c ≡ cond (eqb t 0) (L.Found (P.Row 0)) (placeAmong first (m .periods) t)
+      c ≡ cond (ltb 0 n && ltb n (length (m .periods))) (L.Between (first + n - 1)) L.Outside →
+      c ≡ cond (eqb t 0) (L.Row 0) (placeAmong first (m .periods) t)
   unfolding placeAmong
   in-no-row t other count e =
       let before = Unit {0} × (t ≡ 0 → ⊥) in

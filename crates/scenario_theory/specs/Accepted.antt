@@ -12,6 +12,7 @@ use Rattle.scenario_theory.specs.declared.Rupture.the-variants as R
 use Rattle.scenario_theory.specs.declared.Projection.{Projection}
 use Rattle.scenario_theory.specs.declared.Projection.the-variants as P
 use Rattle.scenario_theory.specs.declared.Place.{Place}
+use Rattle.scenario_theory.specs.declared.Place.the-variants as Q
 use Rattle.scenario_theory.specs.declared.Lookup.{Lookup}
 use Rattle.scenario_theory.specs.declared.Lookup.the-variants as L
 use Rattle.scenario_theory.specs.declared.Basis.{Basis}
@@ -19,7 +20,7 @@ use Rattle.scenario_theory.specs.declared.Basis.the-variants as B
 use Rattle.scenario_theory.specs.declared.Check.{Check}
 use Rattle.scenario_theory.specs.declared.Check.the-variants as K
 use Rattle.scenario_theory.specs.declared.RowPeriods.{RowPeriods}
-use Rattle.scenario_theory.specs.declared.RowPeriods.the-variants as Q
+use Rattle.scenario_theory.specs.declared.RowPeriods.the-variants as W
 use Rattle.scenario_theory.specs.Checks.{unlessRefused}
 use Rattle.scenario_theory.specs.Refusal.{Limits, idriss, booreAtkinson, beyondPeriods, refusalBy, refusalOf}
 use Rattle.scenario_theory.specs.Rows.{idrissRow, booreAtkinsonRow, placeBy, rowList, periodsAt, InTable}
@@ -46,7 +47,8 @@ checkBy m row basis s =
 
 -- the last of them, by a look-up
 abbrev pub basedOn : (Place → Basis) → Lookup → Check
-basedOn basis (L.Found p) = K.Accepted (basis p)
+basedOn basis (L.Row k) = K.Accepted (basis (Q.Row k))
+basedOn basis (L.Between k) = K.Accepted (basis (Q.Between k))
 basedOn basis L.Outside = K.Refused 6
 
 -- what an answer at a period rests on, by each model: there is nothing where its distance is absent, as 9 says
@@ -70,7 +72,7 @@ checkOf s = unlessRefused (refusalOf s) (basisOf s) (K.Refused (refusalOf s))
 abbrev pub periodsOn : Check → RowPeriods
 periodsOn (K.Accepted (B.Idriss d p)) = periodsAt (rowList 1) p
 periodsOn (K.Accepted (B.BooreAtkinson d p)) = periodsAt (rowList 2) p
-periodsOn (K.Refused k) = Q.Refused k
+periodsOn (K.Refused k) = W.Refused k
 
 abbrev pub InTables : Check → Type 0
 InTables (K.Accepted (B.Idriss d p)) = InTable p

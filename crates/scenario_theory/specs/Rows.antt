@@ -42,19 +42,24 @@ pub record BetweenRows (m : Limits) (row : ℕ → ℕ) (T : ℕ) : Type 0 where
 
 -- ---- the same by counting, as the code has it
 
+-- a look-up that finds the place
+abbrev pub found : Place → Lookup
+found (P.Row k) = L.Row k
+found (P.Between k) = L.Between k
+
 -- among the periods of a list that rises, the first of which has row `first`
 unfoldable pub placeAmong : ℕ → List ℕ → ℕ → Lookup
 placeAmong first periods T =
     let n : ℕ = countBelow periods T in
-    cond (among periods T) (L.Found (P.Row (first + n)))
-    (cond (ltb 0 n && ltb n (length periods)) (L.Found (P.Between (first + n - 1))) L.Outside)
+    cond (among periods T) (L.Row (first + n))
+    (cond (ltb 0 n && ltb n (length periods)) (L.Between (first + n - 1)) L.Outside)
 
 unfoldable pub idrissPlace : ℕ → Lookup
-idrissPlace T = cond (eqb T 0) (L.Found (P.Row 0)) (placeAmong 0 (idriss .periods) T)
+idrissPlace T = cond (eqb T 0) (L.Row 0) (placeAmong 0 (idriss .periods) T)
 
 -- the row PGA, row 0, is no neighbour of any period
 unfoldable pub booreAtkinsonPlace : ℕ → Lookup
-booreAtkinsonPlace T = cond (eqb T 0) (L.Found (P.Row 0)) (placeAmong 1 (booreAtkinson .periods) T)
+booreAtkinsonPlace T = cond (eqb T 0) (L.Row 0) (placeAmong 1 (booreAtkinson .periods) T)
 
 -- the periods of the rows of Idriss's tables for the model 1, of Boore-Atkinson's for any other
 abbrev pub rowList : ℕ → List ℕ

@@ -34,16 +34,16 @@ pub struct Scenario {
     pub projection: Projection,
 }
 
-// Where a period that is answered stands in the tables of a model: it has row k, or lies between rows k and k + 1. A
-// row is a u8, so that what the checks answer passes in a register.
+// Where a period that is answered stands in the tables of a model: it has row k, or lies between rows k and k + 1.
 pub enum Place {
-    Row(u8),
-    Between(u8),
+    Row(usize),
+    Between(usize),
 }
 
-// What a look-up of a period in the tables of a model finds.
+// What a look-up of a period in the tables of a model finds: a place, or none.
 pub enum Lookup {
-    Found(Place),
+    Row(usize),
+    Between(usize),
     Outside,
 }
 

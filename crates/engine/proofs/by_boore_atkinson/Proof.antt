@@ -23,12 +23,12 @@ by-boore-atkinson-spec =
     let k = c .before .before in
     rw (c .last-row .ensures, c .before .first-row .ensures)
     (median-domain (last-placed boore-atkinson-tabled _ (k .pre)) (k .pre .within), first-last (k .args .place)))
-    (λ c. search needs) (λ c. search needs)
+    (λ c. search needs)
     (λ c κs.
     let m = c .before .before .before in
     let e = c .before .place .given .1 in
     (rw e at (m .before .before .before .pre), rw e at (rows-are m)))
-    (λ c. search needs) (λ c. search needs)
+    (λ c. search needs)
     (λ c κs.
     let m = c .before .before .before in
     let e = c .before .place2 .given .1 in

@@ -9,6 +9,6 @@ pub last-row-spec : {M : Type 1} → statement M
 last-row-spec =
     tie.close
     (tie.spec
-    (λ c. search needs) (λ c. search needs) (λ c. search needs) (λ c. search needs)
+    (λ c. search needs) (λ c. search needs)
     (λ c. let h = rw (c .before .place2 .given .1) at (c .before .before .before .pre) in omega (arith, h))
     (λ c. rw (c .before .place .given .1) refl) (λ c. rw (c .before .place2 .given .1) refl))

@@ -8,7 +8,6 @@ pub tell-place-spec : {M : Type 1} → statement M
 tell-place-spec =
     tie.close
     (tie.spec
-    (λ c. search needs) (λ c. search needs) (λ c. search needs) (λ c. search needs)
-    (λ c. rw (c .before .before .before .before .l .given .1, c .before .p .given .1) refl)
-    (λ c. rw (c .before .before .before .before .l .given .1, c .before .p2 .given .1) refl)
+    (λ c. search needs) (λ c. search needs) (λ c. search needs)
+    (λ c. rw (c .before .l .given .1) refl) (λ c. rw (c .before .l2 .given .1) refl)
     (λ c. rw (c .enum-told .given .1) refl))

@@ -14,10 +14,9 @@ pub periods-at-spec : {M : Type 1} → statement M
 periods-at-spec =
     tie.close
     (tie.spec
-    (λ c. search needs) (λ c. search needs)
-    (λ c κs. rw (c .before .place .given .1) at (c .before .before .before .pre))
-    (λ c. search needs) (λ c. search needs) (λ c κs. omega (arith, next c)) (λ c. search needs)
-    (λ c. omega (arith, next (c .before))) (λ c κs. next (c .before))
+    (λ c. search needs) (λ c κs. rw (c .before .place .given .1) at (c .before .before .before .pre))
+    (λ c. search needs) (λ c κs. omega (arith, next c)) (λ c. omega (arith, next (c .before)))
+    (λ c κs. next (c .before))
     (λ c. rw (c .period-of-row .ensures, c .before .before .place .given .1) refl)
     (λ c.
     rw (c .period-of-row3 .ensures, c .before .period-of-row2 .ensures, c .before .before .before .place2 .given .1)
