@@ -8,7 +8,7 @@ ghost use denote.Ref.{ptr};
 ghost use Rattle.scenario_theory.specs.Distances.{ruptureOf, projectionOf};
 ghost use Rattle.record_theory.specs.Layout.{Bytes, layout, numberOf, absentWritten};
 ghost use Rattle.record_theory.specs.Outcome.{scenarioIn, readOf, restAt, restOf, ReadPromise};
-ghost use Rattle.record_theory.specs.Steps.{Complete, StandBy, frontRefusal, fieldCheck, basedReadingOf, readingIn};
+ghost use Rattle.record_theory.specs.Steps.{Complete, StandBy, frontRefusal, basedReadingOf, readingIn};
 use record_map::ABSENT_MECHANISM;
 use record_map::ABSENT_PERIOD;
 use record_map::ABSENT_VELOCITY;
@@ -157,27 +157,6 @@ fn front_refusal(s: &[u8]) -> u8
     0
 }
 
-// The checks of the fields, with what an answer rests on.
-fn field_check(m: u8, x: Scenario) -> Check
-    requires { ⌜ StandBy m x ⌝ }
-    ensures { λ r. ⌜ r ≡ fieldCheck m x ⌝ }
-{
-    if absent_written(m, x) {
-        return Check::Refused(11);
-    }
-    let rupture = x.rupture;
-    let projection = x.projection;
-    scenario::check(
-        x.model,
-        x.magnitude,
-        rupture,
-        x.velocity,
-        x.mechanism,
-        x.period,
-        projection,
-    )
-}
-
 // Reads the record at the front of s, with what an answer rests on, so that nobody has to look it up again.
 pub fn read_with_basis(s: &[u8]) -> BasedReading
     ensures { λ r. ⌜ r ≡ basedReadingOf (now (s .entry)) ⌝ }
@@ -190,8 +169,20 @@ pub fn read_with_basis(s: &[u8]) -> BasedReading
     }
     let m = s[0];
     let x = fields(s);
-    let c = field_check(m, x);
-    match c {
+    if absent_written(m, x) {
+        return BasedReading::Refused(11);
+    }
+    let rupture = x.rupture;
+    let projection = x.projection;
+    match scenario::check(
+        x.model,
+        x.magnitude,
+        rupture,
+        x.velocity,
+        x.mechanism,
+        x.period,
+        projection,
+    ) {
         Check::Accepted(basis) => BasedReading::Read(x, record_length(m), basis),
         Check::Refused(k) => BasedReading::Refused(k),
     }

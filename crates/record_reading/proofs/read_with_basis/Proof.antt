@@ -7,7 +7,8 @@ use Rattle.record_theory.specs.Layout.{Bytes}
 use Rattle.record_theory.specs.Outcome.{mapIn, scenarioIn, ReadPromise}
 use Rattle.record_theory.specs.Steps.{frontRefusal, fieldCheck, basedReadingOf, readingIn}
 use Rattle.record_theory.proofs.FieldLaws.{length-is, distances-read}
-use Rattle.record_theory.proofs.ReadingLaws.{front-passes, refused-front, refused-fields, is-read, read-of}
+use Rattle.record_theory.proofs.ReadingLaws.{front-passes, written-out, not-written-out, refused-front, refused-fields}
+use Rattle.record_theory.proofs.ReadingLaws.{is-read, read-of}
 use Rattle.record_reading.proofs.read_with_basis.Statement.{statement}
 use Rattle.record_reading.proofs.read_with_basis.Tie as tie
 
@@ -21,26 +22,38 @@ promised c e = (e, (read-of _ (sym e) .1, λ i. omega (arith, c .shared-slice-kn
 front : (c : tie.Else1) → frontRefusal (c .before .before .before .args .s .now) ≡ 0
 front c = sym (c .before .front-refusal .ensures) ∙ c .if1 .left
 
--- and what those of the fields come to
-checked : (c : tie.After-field-check) →
-    let s = c .before .before .before .before .before .before .args .s .now in
-    fieldCheck (mapIn s) (scenarioIn s) ≡ c .field-check .result
-checked c = sym (rw (c .before .fields .ensures) at (c .field-check .ensures))
+-- and those of the fields, where the first of them does: the others come to what `check` answers
+checked : (c : tie.After-check) →
+    let s = c .before .before .before .before .before .before .before .before .args .s .now in
+    fieldCheck (mapIn s) (scenarioIn s) ≡ c .check .result
+checked c =
+    let w = c .before .before in
+    let x = w .before .fields .ensures in
+    let apart = rw x at (sym (w .absent-written .ensures) ∙ c .before .if2 .left) in
+    sym (not-written-out _ _ apart (rw x at (c .check .ensures)))
 
-read : tie.Need-returns-2
+read : tie.Need-returns-3
 read c =
     let told = c .before .before in
     let k = told .before .before in
-    let e = k .before .before .before in
+    let f = k .before .before .before in
+    let e = f .before .before in
     promised (e .before .before)
-    (rw (k .before .fields .ensures, c .record-length .ensures) (is-read _ (front e) (checked k ∙ told .c .given .1)))
+    (rw (f .fields .ensures, c .record-length .ensures) (is-read _ (front e) (checked k ∙ told .basis .given .1)))
 
-fields-refused : tie.Need-returns-3
+fields-refused : tie.Need-returns-4
 fields-refused c =
     let told = c .before in
     let k = told .before .before in
-    let e = k .before .before .before in
-    promised (e .before .before) (refused-fields _ (front e) (checked k ∙ told .c2 .given .1))
+    let e = k .before .before .before .before .before in
+    promised (e .before .before) (refused-fields _ (front e) (checked k ∙ told .k .given .1))
+
+default-written : tie.Need-returns-2
+default-written c =
+    let f = c .before .before in
+    let e = f .before .before in
+    let written = rw (f .fields .ensures) at (sym (c .before .absent-written .ensures) ∙ c .if2 .taken) in
+    promised (e .before .before) (refused-fields _ (front e) (sym (written-out _ _ written)))
 
 pub read-with-basis-spec : {M : Type 1} → statement M
 read-with-basis-spec =
@@ -51,6 +64,7 @@ read-with-basis-spec =
     (λ c. let f = front-passes _ (front (c .before)) in omega (arith, length-is _ (f .passes)))
     (λ c κs. front-passes _ (front (c .before)))
     (λ c κs. rw (c .fields .ensures) (distances-read _ (front-passes _ (front (c .before .before)) .passes)))
-    (λ c. search needs)
-    (λ c κs. front-passes _ (front (c .before .before .before .before .before .before)) .passes)
+    default-written (λ c κs. search needs) (λ c. search needs)
+    (λ c κs.
+    let f = c .before .before .before .before .before .before in front-passes _ (front (f .before .before)) .passes)
     (λ c. search needs) read fields-refused)
