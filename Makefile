@@ -22,7 +22,7 @@ BENCH := target/bench/bench
 ALONE := flock target/tests/lock
 
 .PHONY: run test lib examples bench longer definitions outside hosts probe program need need_hosts need_bench need_test
-.PHONY: test_logarithm test_records test_models test_answers test_enclosures test_program_failures test_hosts
+.PHONY: test_logarithm test_records test_models test_answers test_enclosures test_program_failures test_hosts test_kinds
 .SILENT:
 
 run: program
@@ -62,7 +62,7 @@ definitions: need_test
 	cmp $(SAMPLE).stdout crates/enclosures/stdout
 
 # The tests of the program come first, as they need no library, and run while the libraries are built.
-outside: test_enclosures test_program_failures test_logarithm test_models test_records test_answers test_hosts
+outside: test_enclosures test_program_failures test_logarithm test_models test_records test_answers test_kinds test_hosts
 
 test_logarithm test_models: test_%: probe
 	python3 tests/$@.py $(PROBE)
@@ -75,6 +75,9 @@ test_answers: hosts
 
 test_hosts: hosts
 	python3 tests/$@.py $(ASKS) $(SPECTRA)
+
+test_kinds: hosts
+	python3 tests/$@.py $(LIB)
 
 test_enclosures test_program_failures: test_%: program
 	python3 tests/$@.py $(PROGRAM)

@@ -4,8 +4,8 @@
    place MODEL PERIOD     row K, between K (the rows K and K + 1) or outside: the period in the model's tables
    rest BYTES             the bytes after the record at their front
    table MAGNITUDE        2 or 3, the table of Idriss that the magnitude takes
-   idriss TABLE ROW MAGNITUDE DISTANCE VELOCITY MECHANISM, idriss_sigma PERIOD MAGNITUDE,
-   boore_atkinson ROW MAGNITUDE DISTANCE VELOCITY MECHANISM, boore_atkinson_sigma ROW MECHANISM,
+   idriss TABLE ROW MAGNITUDE RUPTURE VELOCITY MECHANISM, idriss_sigma PERIOD MAGNITUDE,
+   boore_atkinson ROW MAGNITUDE PROJECTION VELOCITY MECHANISM, boore_atkinson_sigma ROW MECHANISM,
    nonlinear ROW VELOCITY LOW HIGH (the ends of p)
                           LOW HIGH, or none where the arguments are not accepted */
 #include <inttypes.h>
@@ -33,11 +33,11 @@ extern size_t probe_rest_length(const uint8_t *bytes, size_t count);
 extern uint8_t probe_rest_byte(const uint8_t *bytes, size_t count, size_t place);
 
 extern bool probe_takes_table_3(uint16_t magnitude);
-extern ProbedEnds probe_idriss(uint8_t table, size_t row, uint16_t magnitude, uint16_t distance, uint16_t velocity,
-                               uint8_t mechanism);
+extern ProbedEnds probe_idriss(uint8_t table, size_t row, uint16_t magnitude, uint16_t rupture_distance,
+                               uint16_t velocity, uint8_t mechanism);
 extern ProbedEnds probe_idriss_sigma(uint16_t period, uint16_t magnitude);
-extern ProbedEnds probe_boore_atkinson(size_t row, uint16_t magnitude, uint16_t distance, uint16_t velocity,
-                                       uint8_t mechanism);
+extern ProbedEnds probe_boore_atkinson(size_t row, uint16_t magnitude, uint16_t projection_distance,
+                                       uint16_t velocity, uint8_t mechanism);
 extern ProbedEnds probe_boore_atkinson_sigma(size_t row, uint8_t mechanism);
 extern ProbedEnds probe_nonlinear(size_t row, uint16_t velocity, uint64_t low, uint64_t high);
 

@@ -64,7 +64,7 @@ MANY = 65536 + 3
 WORDS = (
     'model: neither 1 nor 2',
     "magnitude: beyond the model's limits",
-    "distance: beyond the model's limits",
+    "distance: that which the model reads is beyond its limits",
     "velocity: beyond the model's limits",
     'mechanism: not a code of the model',
     'period: neither 0 nor from 10 to 10000',

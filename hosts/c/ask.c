@@ -11,7 +11,8 @@
                           the same in words
    null                   the numbers of reading, answering from a record in both ways, and writing, with null pointers
                           by fusnoch.h, and by the wrapper where the length says otherwise
-   And in C alone, of the plain struct of fusnoch.h (FIELDS are its nine numbers, with the flags, in their order):
+   And in C alone, of the plain struct of fusnoch.h (FIELDS are its nine numbers in the record's
+   order, each flag before its distance):
    refusal_flags FIELDS   as refusal
    answer_flags FIELDS    as answer
    read_flags BYTES       NUMBER FIELDS LENGTH, as fusnoch_read hands them back */

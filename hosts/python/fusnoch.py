@@ -20,7 +20,7 @@ LONGEST_RECORD = 13
 WORDS = {
     1: 'model: neither 1 nor 2',
     2: "magnitude: beyond the model's limits",
-    3: "distance: beyond the model's limits",
+    3: 'distance: that which the model reads is beyond its limits',
     4: "velocity: beyond the model's limits",
     5: 'mechanism: not a code of the model',
     6: 'period: neither 0 nor from 10 to 10000',

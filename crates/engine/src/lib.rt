@@ -210,7 +210,7 @@ fn by_boore_atkinson(
 }
 
 // By what the checks have found an answer to rest on: the model and the distance that it reads, and the place of the
-// period. The fields pass in registers, as a struct would be stored and read back.
+// period. The fields pass one by one, as a struct would be stored and read back.
 fn on_basis(magnitude: u16, velocity: u16, mechanism: u8, period: u16, basis: Basis) -> Enclosure
     requires { ⌜ PlacedOn magnitude velocity mechanism period basis ⌝ }
     ensures { λ r. ⌜ r ≡ enclosureOn magnitude velocity mechanism period basis ⌝ }

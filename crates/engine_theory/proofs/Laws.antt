@@ -4,7 +4,7 @@ use Prim.Native.Nat.{ℕ, zero, suc}
 use native.Mathlib.Omega.{arith}
 use Rattle.scenario_theory.specs.declared.Scenario.{Scenario}
 use Rattle.scenario_theory.specs.declared.Basis.{Basis}
-use Rattle.scenario_theory.specs.declared.Check.the-variants as C
+use Rattle.scenario_theory.specs.declared.Check.the-variants as K
 use Rattle.scenario_theory.specs.Refusal.{refusalOf}
 use Rattle.scenario_theory.specs.Accepted.{checkOf}
 use Rattle.scenario_theory.proofs.CheckLaws.{is-refused}
@@ -64,11 +64,11 @@ module _ (s : Scenario) where
 
   -- ---- the two cases of an answer from fields
 
-  pub fields-refused : {k : ℕ} → checkOf s ≡ C.Refused k → A.Refused k ≡ answerOf s
+  pub fields-refused : {k : ℕ} → checkOf s ≡ K.Refused k → A.Refused k ≡ answerOf s
   unfolding answerOf answerBy
   fields-refused {k} e = let f = failed s e in rw (← f .number) (is-refused k _ (A.Refused k) (f .some))
 
-  pub fields-enclosed : {b : Basis} {e : Enclosure} → checkOf s ≡ C.Accepted b →
+  pub fields-enclosed : {b : Basis} {e : Enclosure} → checkOf s ≡ K.Accepted b →
       e ≡ enclosureOn (s .magnitude) (s .velocity) (s .mechanism) (s .period) b → A.Enclosed e ≡ answerOf s
   unfolding answerOf answerBy
   fields-enclosed {b} c same =

@@ -1,10 +1,13 @@
 -- The ends of an accepted scenario enclose what its model gives: by a row, and between two rows (W-201).
 use mathlib.Core.Path.{_≡_, refl, ap}
-use mathlib.Core.Bool.{Bool, true, false, cond}
+use mathlib.Core.Bool.{Bool, true, false, false≢true, or-false, cond, _&&_, _||_}
 use mathlib.Core.Logic.{⊎-elim}
+use mathlib.Core.Option.{Option, none, some}
 use Prim.Native.Nat.{ℕ, _*_, _^_, _≤_}
 use native.Mathlib.Nat.{le-refl}
 use native.Mathlib.Omega.{arith}
+use borrow.Author.Tests.{eqb-true}
+use lib.Dec.{eqb}
 use lib.IntN.{ℤ, pos, _+ℤ_}
 use lib.Signed.{_≤ℤ_}
 use Rattle.toolbox_theory.specs.Whole.{up, down}
@@ -19,8 +22,8 @@ use Rattle.interval_theory.specs.Bound.{Reaches}
 use Rattle.interval_theory.proofs.SignedBounds.{reaches-more}
 use Rattle.interpolation_theory.specs.Promise.{BetweenEnds}
 use Rattle.scenario_theory.specs.declared.Scenario.{Scenario}
-use Rattle.scenario_theory.specs.Distances.{given}
-use Rattle.scenario_theory.specs.Refusal.{idriss, booreAtkinson, refusalOf}
+use Rattle.scenario_theory.specs.Distances.{isAbsent, given}
+use Rattle.scenario_theory.specs.Refusal.{idriss, booreAtkinson, lacksDistance, refusalOf}
 use Rattle.scenario_theory.specs.Neighbours.{hasRow, neighbourBelow, neighbourAbove}
 use Rattle.scenario_theory.specs.Accepted.{Within}
 use Rattle.scenario_theory.proofs.RefusalLaws.{WithinBy, of-model}
@@ -52,11 +55,6 @@ use Rattle.engine_theory.specs.Evaluation.{idrissMedianEnds, booreAtkins
 use Rattle.engine_theory.specs.Evaluation.{booreAtkinsonSigmaEnds, idrissEnclosureOf, booreAtkinsonEnclosureOf}
 use Rattle.engine_theory.specs.Evaluation.{enclosureOf, SmallEnclosure}
 use Rattle.engine_theory.proofs.RowLaws.{idriss-tabled, boore-atkinson-tabled, on-step, not-first}
-
--- what a model gives where its distance is absent is enclosed by nothing
-pub undefined-enclosed : {P : Pair} → Encloses P undefined → ⊥
-unfolding Defined
-undefined-enclosed h = let d = h .defined 1 (le-refl 1) in omega arith
 
 -- two ends enclose f, at most w units apart, and a double equals each
 pub record Ends (w : ℕ) (f : Formula) (e : SignedEnds) : Type 0 where
@@ -186,52 +184,57 @@ pub record Sound (s : Scenario) (e : Enclosure) : Type 0 where
   pub in-range : InRange (e .median)
 
 module _ (s : Scenario) where
-  module _ (model : s .model ≡ 1) (w : WithinBy idriss s) where
-    idriss-median-is : median s ≡ idrissMedianBy (tableFor (s .magnitude)) (w .distance) s
-    unfolding median
-    idriss-median-is =
-        rw model (ap (λ o. given o (λ R. idrissMedianBy (tableFor (s .magnitude)) R s) undefined) (w .reads))
+  -- by what the model gives and what is computed
+  sound-by : (f : Formula) (e : Enclosure) → median s ≡ f → enclosureOf s ≡ e →
+      MedianEnds (medianWidth s) f (e .median) → Ends (sigmaWidth s) (sigma s) (e .sigma) → Sound s (enclosureOf s)
+  sound-by f e gives computes m g =
+      rw computes (record {
+        median-enclosed = rw gives (m .own .enclosed);
+        sigma-enclosed = g .enclosed;
+        small = record { median = m .own .small; sigma = g .small };
+        in-range = m .inside;
+      })
 
-    idriss-enclosure-is : enclosureOf s ≡
-        idrissEnclosureOf (s .magnitude) (w .distance) (s .velocity) (s .mechanism) (s .period)
-    unfolding enclosureOf
-    idriss-enclosure-is = rw (model, w .reads) refl
+  idriss-sound : s .model ≡ 1 → WithinBy idriss s → Sound s (enclosureOf s)
+  unfolding median sigma medianWidth sigmaWidth enclosureOf idrissEnclosureOf
+  idriss-sound model w =
+      let at-distance : ℕ → Formula = λ R. idrissMedianBy (tableFor (s .magnitude)) R s in
+      let e = idrissEnclosureOf (s .magnitude) (w .distance) (s .velocity) (s .mechanism) (s .period) in
+      sound-by (at-distance (w .distance)) e (rw model (ap (λ o. given o at-distance undefined) (w .reads)))
+      (rw (model, w .reads) refl)
+      (rw model (idriss-median s (w .within) (takesTable3 (s .magnitude)))) (rw model (idriss-sigma s (w .within)))
 
-    idriss-sound : Sound s (enclosureOf s)
-    unfolding idrissEnclosureOf sigma medianWidth sigmaWidth
-    idriss-sound =
-        let m = idriss-median s (w .within) (takesTable3 (s .magnitude)) in
-        let g = idriss-sigma s (w .within) in
-        rw idriss-enclosure-is (record {
-          median-enclosed = rw (idriss-median-is, model) (m .own .enclosed);
-          sigma-enclosed = rw model (g .enclosed);
-          small = record { median = m .own .small; sigma = g .small };
-          in-range = m .inside;
-        })
-
-  module _ (model : s .model ≡ 2) (w : WithinBy booreAtkinson s) where
-    boore-atkinson-median-is : median s ≡ booreAtkinsonMedianBy (w .distance) s
-    unfolding median
-    boore-atkinson-median-is =
-        rw model (ap (λ o. given o (λ RJB. booreAtkinsonMedianBy RJB s) undefined) (w .reads))
-
-    boore-atkinson-enclosure-is : enclosureOf s ≡
-        booreAtkinsonEnclosureOf (s .magnitude) (w .distance) (s .velocity) (s .mechanism) (s .period)
-    unfolding enclosureOf
-    boore-atkinson-enclosure-is = rw (model, w .reads) refl
-
-    boore-atkinson-sound : Sound s (enclosureOf s)
-    unfolding booreAtkinsonEnclosureOf sigma medianWidth sigmaWidth
-    boore-atkinson-sound =
-        let m = boore-atkinson-median s (w .within) in
-        let g = boore-atkinson-sigma s (w .within) in
-        rw boore-atkinson-enclosure-is (record {
-          median-enclosed = rw (boore-atkinson-median-is, model) (m .own .enclosed);
-          sigma-enclosed = rw model (g .enclosed);
-          small = record { median = m .own .small; sigma = g .small };
-          in-range = m .inside;
-        })
+  boore-atkinson-sound : s .model ≡ 2 → WithinBy booreAtkinson s → Sound s (enclosureOf s)
+  unfolding median sigma medianWidth sigmaWidth enclosureOf booreAtkinsonEnclosureOf
+  boore-atkinson-sound model w =
+      let at-distance : ℕ → Formula = λ RJB. booreAtkinsonMedianBy RJB s in
+      let e = booreAtkinsonEnclosureOf (s .magnitude) (w .distance) (s .velocity) (s .mechanism) (s .period) in
+      sound-by (at-distance (w .distance)) e (rw model (ap (λ o. given o at-distance undefined) (w .reads)))
+      (rw (model, w .reads) refl)
+      (rw model (boore-atkinson-median s (w .within))) (rw model (boore-atkinson-sigma s (w .within)))
 
   pub sound : refusalOf s ≡ 0 → Sound s (enclosureOf s)
   sound accepted =
       ⊎-elim (λ p. idriss-sound (p .0) (p .1)) (λ p. boore-atkinson-sound (p .0) (p .1)) (of-model s accepted)
+
+-- ---- nothing encloses the median of a scenario that lacks the distance that its model reads
+
+absent : (o : Option ℕ) → isAbsent o ≡ true → o ≡ none
+absent none e = refl
+absent (some x) e = absurd (false≢true e)
+
+module _ (s : Scenario) where
+  undefined-at : lacksDistance s ≡ true → median s ≡ undefined
+  unfolding lacksDistance median
+  undefined-at = go (eqb (s .model) 1) (eqb (s .model) 2) refl refl
+    where
+      go : (a b : Bool) → eqb (s .model) 1 ≡ a → eqb (s .model) 2 ≡ b →
+          ((a && isAbsent (idriss .reads s)) || (b && isAbsent (booreAtkinson .reads s))) ≡ true → median s ≡ undefined
+      go true true p q e = absurd (omega (arith, eqb-true (s .model) 1 p, eqb-true (s .model) 2 q))
+      go true false p q e = rw (p, absent (idriss .reads s) (rw or-false at e)) refl
+      go false true p q e = rw (p, absent (booreAtkinson .reads s) e) refl
+      go false false p q e = absurd (false≢true e)
+
+  pub nothing-encloses : {P : Pair} → lacksDistance s ≡ true → Encloses P (median s) → ⊥
+  unfolding Defined
+  nothing-encloses e h = let d = rw (undefined-at e) at (h .defined 1 (le-refl 1)) in omega (arith, d)

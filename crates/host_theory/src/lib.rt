@@ -4,8 +4,7 @@
 // in 0.001 s (0, which is peak acceleration, or from 10 to 10000). Mechanism: 0 strike-slip, 1 normal, 2 reverse,
 // 3 reverse oblique, 4 other oblique, 9 unspecified. Each model reads its own distance: model 1, Idriss 2014, that to
 // the rupture, model 2, Boore and Atkinson 2008, that to its surface projection; the other may stand. A distance whose
-// flag is 0 is absent, and the number beside it is not looked at; with any other flag it stands. The flags stand where
-// no bytes are left over between the fields, so that the struct passes in registers.
+// flag is 0 is absent, and the number beside it is not looked at; with any other flag it stands.
 #[repr(C)]
 pub struct HostScenario {
     pub model: u8,

@@ -6,15 +6,11 @@ use Prim.Native.Nat.{ℕ, _<_}
 use borrow.Author.Tests.{eqb-true, eqb-false, eq-eqb, ne-eqb}
 use lib.Dec.{eqb}
 use Rattle.scenario_theory.specs.Distances.{isAbsent}
+use Rattle.scenario_theory.proofs.RefusalLaws.{Below}
 use Rattle.record_theory.specs.Layout.{_unless_, _or_}
 
--- a number that stands is below k
-abbrev pub Below : ℕ → Option ℕ → Type 0
-Below k none = Unit {0}
-Below k (some x) = x < k
-
 -- what holds of none where x is d, and of x where it is not, holds of x unless d
-pub unless-cases : (P : Option ℕ → Type 0) (x d : ℕ) → (x ≡ d → P none) → ((x ≡ d → ⊥) → P (some x)) → P (x unless d)
+unless-cases : (P : Option ℕ → Type 0) (x d : ℕ) → (x ≡ d → P none) → ((x ≡ d → ⊥) → P (some x)) → P (x unless d)
 unless-cases P x d a s = go (eqb x d) refl
   where
     go : (b : Bool) → eqb x d ≡ b → P (cond b none (some x))

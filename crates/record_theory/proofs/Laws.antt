@@ -13,7 +13,7 @@ use Rattle.scenario_theory.specs.declared.Scenario.{Scenario}
 use Rattle.scenario_theory.specs.Distances.{ruptureNumber}
 use Rattle.scenario_theory.specs.Refusal.{refusalOf}
 use Rattle.scenario_theory.proofs.DistanceLaws.{rupture-number, projection-number}
-use Rattle.scenario_theory.proofs.RefusalLaws.{AtMost, of-model}
+use Rattle.scenario_theory.proofs.RefusalLaws.{Below, of-model}
 use Rattle.record_theory.specs.declared.Reading.the-variants.{Read}
 use Rattle.record_theory.specs.declared.Writing.the-variants.{Length}
 use Rattle.record_theory.specs.Layout.{Bytes, stands, recordOf}
@@ -30,7 +30,7 @@ use Rattle.record_theory.proofs.WritingLaws.{is-written, written-as}
 
 module _ (x : Scenario) (e : refusalOf x ≡ 0) where
   -- no check bounds a rupture distance that the model does not read, but it is the number of a u16
-  pub record-is-bytes : AtMost 65_535 (ruptureNumber (x .rupture)) → Bytes (recordOf x)
+  pub record-is-bytes : Below 65_536 (ruptureNumber (x .rupture)) → Bytes (recordOf x)
   record-is-bytes = record-bytes x e
 
   pub record-is-read : (s : List ℕ) → readOf (recordOf x ++ s) ≡ Read x (length (recordOf x))

@@ -9,7 +9,7 @@ use lib.Dec.{eqb}
 use lib.ListN.{length, drop}
 use Rattle.scenario_theory.specs.declared.Scenario.{Scenario}
 use Rattle.scenario_theory.specs.declared.Check.{Check}
-use Rattle.scenario_theory.specs.declared.Check.the-variants as C
+use Rattle.scenario_theory.specs.declared.Check.the-variants as K
 use Rattle.scenario_theory.specs.Checks.{_when_, _otherwise_, unlessRefused}
 use Rattle.scenario_theory.specs.Refusal.{refusalOf}
 use Rattle.scenario_theory.specs.Accepted.{basisOf, checkOf, RestsOn}
@@ -54,7 +54,7 @@ accepted s e =
 
 -- the checks of the fields: a number that is written out, and then those of the scenario
 module _ (m : ℕ) (x : Scenario) where
-  pub written-out : absentWritten layout m x ≡ true → C.Refused 11 ≡ fieldCheck m x
+  pub written-out : absentWritten layout m x ≡ true → K.Refused 11 ≡ fieldCheck m x
   unfolding fieldCheck fieldRefusal
   written-out e = rw e refl
 
@@ -82,10 +82,10 @@ module _ (s : List ℕ) where
         let x = scenarioIn s in
         rw (← numbers) (of-unless (basedReading x (lengthBy (mapIn s))) (fieldRefusal (mapIn s) x) (basisOf x) _)
 
-    pub refused-fields : {k : ℕ} → fieldCheck (mapIn s) (scenarioIn s) ≡ C.Refused k → T.Refused k ≡ basedReadingOf s
+    pub refused-fields : {k : ℕ} → fieldCheck (mapIn s) (scenarioIn s) ≡ K.Refused k → T.Refused k ≡ basedReadingOf s
     refused-fields e = rw e at fields
 
-    pub is-read : {b : Basis} → fieldCheck (mapIn s) (scenarioIn s) ≡ C.Accepted b →
+    pub is-read : {b : Basis} → fieldCheck (mapIn s) (scenarioIn s) ≡ K.Accepted b →
         T.Read (scenarioIn s) (lengthBy (mapIn s)) b ≡ basedReadingOf s
     is-read e = rw e at fields
 

@@ -2,15 +2,15 @@
 use mathlib.Core.Path.{_≡_}
 use mathlib.Core.List.{List, [], _∷_}
 use mathlib.Core.Option.{Option, none, some}
-use Prim.Native.Nat.{ℕ, _^_, _<_}
+use Prim.Native.Nat.{ℕ, _^_}
 use native.Mathlib.Omega.{arith}
 use Rattle.scenario_theory.specs.declared.Scenario.{Scenario}
 use Rattle.scenario_theory.specs.Refusal.{refusalOf}
-use Rattle.scenario_theory.specs.Distances.{ruptureNumber, projectionNumber}
-use Rattle.scenario_theory.proofs.RefusalLaws.{sizes, AtMost, projection-at-most}
+use Rattle.scenario_theory.specs.Distances.{ruptureNumber}
+use Rattle.scenario_theory.proofs.RefusalLaws.{sizes, Below, projection-below}
 use Rattle.record_theory.specs.Layout.{Bytes, Field, layout, absentVelocity, absentMechanism, absentPeriod}
 use Rattle.record_theory.specs.Layout.{mapOf, partOf, partsOf, recordOf}
-use Rattle.record_theory.proofs.AbsentLaws.{Below, unless-below}
+use Rattle.record_theory.proofs.AbsentLaws.{unless-below}
 use Rattle.record_theory.proofs.ByteLaws.{bytes-none, bytes-cons, bytes-append, bytes-fit}
 use Rattle.record_theory.proofs.Agreement.{written-small}
 
@@ -29,22 +29,14 @@ parts-bytes (f ∷ fs) x h =
     bytes-append (partOf (f .width) (f .written x)) (partsOf fs x) (part-bytes (f .width) (f .written x) (h .0))
     (parts-bytes fs x (h .1))
 
--- a distance that is at most so much
-at-most-below : (j k : ℕ) (o : Option ℕ) → j < k → AtMost j o → Below k o
-at-most-below j k none l h = tt
-at-most-below j k (some x) l h = omega arith
-
-module _ (x : Scenario) (e : refusalOf x ≡ 0) (u : AtMost 65_535 (ruptureNumber (x .rupture))) where
+module _ (x : Scenario) (e : refusalOf x ≡ 0) (u : Below 65_536 (ruptureNumber (x .rupture))) where
   layout-fits : Fit layout x
   layout-fits =
       let z = sizes x e in
       let velocity = unless-below (256 ^ 2) (x .velocity) absentVelocity (omega arith) in
       let mechanism = unless-below (256 ^ 1) (x .mechanism) absentMechanism (omega arith) in
       let period = unless-below (256 ^ 2) (x .period) absentPeriod (omega arith) in
-      let rupture = at-most-below 65_535 (256 ^ 2) (ruptureNumber (x .rupture)) (omega arith) u in
-      let projection =
-      at-most-below 19_999 (256 ^ 2) (projectionNumber (x .projection)) (omega arith) (projection-at-most x e) in
-      (omega arith, (omega arith, (rupture, (velocity, (mechanism, (period, (projection, tt)))))))
+      (omega arith, (omega arith, (u, (velocity, (mechanism, (period, (projection-below x e, tt)))))))
 
   pub record-bytes : Bytes (recordOf x)
   unfolding recordOf

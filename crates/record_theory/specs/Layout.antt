@@ -9,8 +9,6 @@ use lib.ListN.{getD, take, drop}
 use Rattle.scenario_theory.specs.declared.Scenario.{Scenario}
 use Rattle.scenario_theory.specs.Distances.{ruptureNumber, ruptureOf, projectionNumber, projectionOf, isAbsent}
 
--- a record has a number of each field, or none: the field is left out
-
 infix 40 _unless_
 -- a number that is left out where it is d: "a field with that number is never written"
 abbrev pub _unless_ : ℕ → ℕ → Option ℕ

@@ -7,7 +7,7 @@ use lib.Dec.{eqb, ltb}
 use lib.ListN.{length}
 use Rattle.scenario_theory.specs.declared.Scenario.{Scenario}
 use Rattle.scenario_theory.specs.declared.Check.{Check}
-use Rattle.scenario_theory.specs.declared.Check.the-variants as C
+use Rattle.scenario_theory.specs.declared.Check.the-variants as K
 use Rattle.scenario_theory.specs.Checks.{_when_, _otherwise_, unlessRefused}
 use Rattle.scenario_theory.specs.Distances.{ruptureNumber, projectionNumber, isAbsent}
 use Rattle.scenario_theory.specs.Refusal.{refusalOf}
@@ -36,12 +36,12 @@ pub record StandBy (m : ℕ) (x : Scenario) : Type 0 where
 
 -- what an answer to the scenario rests on, as the last check has it
 unfoldable pub fieldCheck : ℕ → Scenario → Check
-fieldCheck m x = unlessRefused (fieldRefusal m x) (basisOf x) (C.Refused (fieldRefusal m x))
+fieldCheck m x = unlessRefused (fieldRefusal m x) (basisOf x) (K.Refused (fieldRefusal m x))
 
 -- what is read, with that
 abbrev pub basedReading : Scenario → ℕ → Check → BasedReading
-basedReading x n (C.Accepted b) = T.Read x n b
-basedReading x n (C.Refused k) = T.Refused k
+basedReading x n (K.Accepted b) = T.Read x n b
+basedReading x n (K.Refused k) = T.Refused k
 
 unfoldable pub basedReadingOf : List ℕ → BasedReading
 basedReadingOf s =

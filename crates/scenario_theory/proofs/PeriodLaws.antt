@@ -17,7 +17,8 @@ use Rattle.scenario_theory.specs.Checks.{_when_, unlessRefused}
 use Rattle.scenario_theory.specs.Refusal.{Limits, idriss, booreAtkinson, beyondPeriods}
 use Rattle.scenario_theory.specs.Neighbours.{hasRow, neighbourBelow, neighbourAbove, idrissPrinted}
 use Rattle.scenario_theory.specs.Neighbours.{rowPeriodsBy}
-use Rattle.scenario_theory.specs.Rows.{BetweenRows, placeBy, idrissRow, booreAtkinsonRow, rowCount, found, idrissPlace}
+use Rattle.scenario_theory.specs.Rows.{BetweenRows, placeBy, idrissRow, booreAtkinsonRow, rowCount}
+use Rattle.scenario_theory.specs.Rows.{found, idrissPlace}
 use Rattle.scenario_theory.specs.Rows.{booreAtkinsonPlace, periodsAt, InTable}
 use Rattle.scenario_theory.proofs.RowLaws.{Listed, place, placed, between-rows, idriss-row, boore-atkinson-row}
 use Rattle.scenario_theory.proofs.RowLaws.{idriss-listed, boore-atkinson-listed, idriss-printed}

@@ -130,24 +130,27 @@ sizes s e =
 
 -- ---- and its distances
 
--- a number that stands is at most k
-abbrev pub AtMost : ℕ → Option ℕ → Type 0
-AtMost k none = Unit {0}
-AtMost k (some x) = x ≤ k
+-- a number that stands is below k
+abbrev pub Below : ℕ → Option ℕ → Type 0
+Below k none = Unit {0}
+Below k (some x) = x < k
 
 -- one that does not exceed another that stands
-nearer : {j k r : ℕ} (p : Option ℕ) → r ≤ j → j ≤ k → exceeds p (some r) ≡ false → AtMost k p
-nearer none h l e = tt
-nearer (some p) h l e = omega (arith, ltb-false _ p e)
+nearer : {r k : ℕ} (p : Option ℕ) → r < k → exceeds p (some r) ≡ false → Below k p
+nearer none h e = tt
+nearer (some p) h e = omega (arith, ltb-false _ p e)
 
--- the projection distance is small by either model: it is what Boore-Atkinson reads, and does not exceed what Idriss
--- reads
-pub projection-at-most : (s : Scenario) → refusalOf s ≡ 0 → AtMost 19_999 (projectionNumber (s .projection))
+-- the projection distance is a number of two bytes by either model: Boore and Atkinson read it, and it does not exceed
+-- what Idriss reads
+pub projection-below : (s : Scenario) → refusalOf s ≡ 0 → Below 65_536 (projectionNumber (s .projection))
 unfolding projectionExceeds
-projection-at-most s e =
+projection-below s e =
     ⊎-elim
     (λ p.
     let w = p .1 in
-    let e = rw (w .reads) at (none-applies s e .thirteen) in
-    nearer (projectionNumber (s .projection)) (w .within .distance-high) (omega arith) e)
-    (λ p. let w = p .1 in subst (AtMost 19_999) (sym (w .reads)) (w .within .distance-high)) (of-model s e)
+    let near = rw (w .reads) at (none-applies s e .thirteen) in
+    nearer (projectionNumber (s .projection)) (omega (arith, w .within .distance-high)) near)
+    (λ p.
+    let w = p .1 in
+    let small : w .distance < 65_536 = omega (arith, w .within .distance-high) in
+    subst (Below 65_536) (sym (w .reads)) small) (of-model s e)

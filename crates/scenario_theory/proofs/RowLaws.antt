@@ -19,7 +19,8 @@ use Rattle.scenario_theory.specs.declared.Place.the-variants as P
 use Rattle.scenario_theory.specs.Checks.{_when_, unlessRefused}
 use Rattle.scenario_theory.specs.Refusal.{Limits, idriss, booreAtkinson, answeredPeriods, beyondPeriods}
 use Rattle.scenario_theory.specs.Neighbours.{hasRow, neighbourBelow, neighbourAbove, idrissPrinted}
-use Rattle.scenario_theory.specs.Rows.{BetweenRows, placeBy, idrissRow, booreAtkinsonRow, rowCount, found, placeAmong}
+use Rattle.scenario_theory.specs.Rows.{BetweenRows, placeBy, idrissRow, booreAtkinsonRow, rowCount}
+use Rattle.scenario_theory.specs.Rows.{found, placeAmong}
 use Rattle.scenario_theory.proofs.RefusalLaws.{answered, not-answered}
 
 -- ---- the row of a tabled period

@@ -10,20 +10,20 @@ use Rattle.engine_theory.proofs.Assembled.{boore-atkinson-interpolates, boore-a
 use Rattle.engine.proofs.between_boore_atkinson.Statement.{statement}
 use Rattle.engine.proofs.between_boore_atkinson.Tie as tie
 
-taken : (c : tie.Start) →
+placed : (c : tie.Start) →
     PlacedOnStep booreAtkinson booreAtkinsonRow (0 ∷ booreAtkinson .periods) (c .args .period) (c .args .k)
-taken c = placed-on-step boore-atkinson-tabled (c .pre .0)
+placed c = placed-on-step boore-atkinson-tabled (c .pre .0)
 
 step : (c : tie.After-step) → c .step .result ≡ stepAround booreAtkinson (c .before .before .args .period)
-step c = let n = c .before in step-is (taken (n .before)) (n .boore-atkinson-neighbours .ensures) (c .step .ensures)
+step c = let n = c .before in step-is (placed (n .before)) (n .boore-atkinson-neighbours .ensures) (c .step .ensures)
 
 pub between-boore-atkinson-spec : {M : Type 1} → statement M
 between-boore-atkinson-spec =
     tie.close
     (tie.spec
-    (λ c κs. let t = taken c in rw (t .row-is) (not-first (t .on-step .rows), t .on-step .last))
-    (λ c κs. step-domain (taken (c .before)) (c .boore-atkinson-neighbours .ensures))
-    (λ c κs. let t = taken (c .before .before) in rw (t .row-is) (t .on-step .last))
+    (λ c κs. let t = placed c in rw (t .row-is) (not-first (t .on-step .rows), t .on-step .last))
+    (λ c κs. step-domain (placed (c .before)) (c .boore-atkinson-neighbours .ensures))
+    (λ c κs. let t = placed (c .before .before) in rw (t .row-is) (t .on-step .last))
     (λ c κs.
     let p = c .before .before .before .pre in
     rw (step (c .before), p .1) (boore-atkinson-interpolates (p .0) .median))

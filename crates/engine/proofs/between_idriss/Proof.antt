@@ -9,18 +9,18 @@ use Rattle.engine_theory.proofs.Assembled.{idriss-interpolates, idriss-between-
 use Rattle.engine.proofs.between_idriss.Statement.{statement}
 use Rattle.engine.proofs.between_idriss.Tie as tie
 
-taken : (c : tie.Start) → PlacedOnStep idriss idrissRow (idriss .periods) (c .args .period) (c .args .k)
-taken c = placed-on-step idriss-tabled (c .pre .0)
+placed : (c : tie.Start) → PlacedOnStep idriss idrissRow (idriss .periods) (c .args .period) (c .args .k)
+placed c = placed-on-step idriss-tabled (c .pre .0)
 
 step : (c : tie.After-step) → c .step .result ≡ stepAround idriss (c .before .before .args .period)
-step c = let n = c .before in step-is (taken (n .before)) (n .idriss-neighbours .ensures) (c .step .ensures)
+step c = let n = c .before in step-is (placed (n .before)) (n .idriss-neighbours .ensures) (c .step .ensures)
 
 pub between-idriss-spec : {M : Type 1} → statement M
 between-idriss-spec =
     tie.close
     (tie.spec
-    (λ c κs. let t = taken c in rw (t .row-is) (t .on-step .last))
-    (λ c κs. step-domain (taken (c .before)) (c .idriss-neighbours .ensures))
+    (λ c κs. let t = placed c in rw (t .row-is) (t .on-step .last))
+    (λ c κs. step-domain (placed (c .before)) (c .idriss-neighbours .ensures))
     (λ c κs. let p = c .before .before .pre in rw (step c, p .1) (idriss-interpolates (p .0)))
     (λ c κs. search needs)
     (λ c.
