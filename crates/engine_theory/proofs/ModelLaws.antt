@@ -1,5 +1,5 @@
 -- The ends of an accepted scenario enclose what its model gives: by a row, and between two rows (W-201).
-use mathlib.Core.Path.{_≡_, refl, ap}
+use mathlib.Core.Path.{_≡_, refl}
 use mathlib.Core.Bool.{Bool, true, false, false≢true, or-false, cond, _&&_, _||_}
 use mathlib.Core.Logic.{⊎-elim}
 use mathlib.Core.Option.{Option, none, some}
@@ -22,7 +22,7 @@ use Rattle.interval_theory.specs.Bound.{Reaches}
 use Rattle.interval_theory.proofs.SignedBounds.{reaches-more}
 use Rattle.interpolation_theory.specs.Promise.{BetweenEnds}
 use Rattle.scenario_theory.specs.declared.Scenario.{Scenario}
-use Rattle.scenario_theory.specs.Distances.{isAbsent, given}
+use Rattle.scenario_theory.specs.Distances.{isAbsent}
 use Rattle.scenario_theory.specs.Refusal.{idriss, booreAtkinson, lacksDistance, refusalOf}
 use Rattle.scenario_theory.specs.Neighbours.{hasRow, neighbourBelow, neighbourAbove}
 use Rattle.scenario_theory.specs.Accepted.{Within}
@@ -200,7 +200,7 @@ module _ (s : Scenario) where
   idriss-sound model w =
       let at-distance : ℕ → Formula = λ R. idrissMedianBy (tableFor (s .magnitude)) R s in
       let e = idrissEnclosureOf (s .magnitude) (w .distance) (s .velocity) (s .mechanism) (s .period) in
-      sound-by (at-distance (w .distance)) e (rw model (ap (λ o. given o at-distance undefined) (w .reads)))
+      sound-by (at-distance (w .distance)) e (rw (model, w .reads) refl)
       (rw (model, w .reads) refl)
       (rw model (idriss-median s (w .within) (takesTable3 (s .magnitude)))) (rw model (idriss-sigma s (w .within)))
 
@@ -209,7 +209,7 @@ module _ (s : Scenario) where
   boore-atkinson-sound model w =
       let at-distance : ℕ → Formula = λ RJB. booreAtkinsonMedianBy RJB s in
       let e = booreAtkinsonEnclosureOf (s .magnitude) (w .distance) (s .velocity) (s .mechanism) (s .period) in
-      sound-by (at-distance (w .distance)) e (rw model (ap (λ o. given o at-distance undefined) (w .reads)))
+      sound-by (at-distance (w .distance)) e (rw (model, w .reads) refl)
       (rw (model, w .reads) refl)
       (rw model (boore-atkinson-median s (w .within))) (rw model (boore-atkinson-sigma s (w .within)))
 
