@@ -1,4 +1,5 @@
 -- `more_if` meets its contract.
+use native.Mathlib.Omega.{arith}
 use borrow.Author.Needs.{needs}
 use Rattle.record_map.proofs.more_if.Statement.{statement}
 use Rattle.record_map.proofs.more_if.Tie as tie
@@ -8,5 +9,5 @@ more-if-spec =
     tie.close
     (tie.spec
     (λ c. search needs)
-    (λ c. (simp (c .if1 .taken), search needs))
-    (λ c. (simp (c .if1 .left) (search needs), search needs)))
+    (λ c. (simp (c .if1 .taken) (omega arith), search needs))
+    (λ c. (simp (c .if1 .left) (omega arith), search needs)))
