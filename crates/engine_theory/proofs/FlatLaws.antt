@@ -15,7 +15,7 @@ use Rattle.engine_theory.specs.Flat.{told, FlatPromise}
 use Rattle.engine_theory.proofs.Laws.{promised}
 
 -- no values are not four
-none-enclose : {s : Scenario} → EnclosesBoth s [] → ⊥
+pub none-enclose : {s : Scenario} → EnclosesBoth s [] → ⊥
 none-enclose h = absurd (omega (arith, ap length (h .four)))
 
 pub told-promised : {k : ℕ} {s : Scenario} (a : Answer) → AnswerPromise k s a → FlatPromise k s (told a)

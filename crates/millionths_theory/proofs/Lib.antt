@@ -1,0 +1,3 @@
+pub mod Greatest
+pub mod Order
+pub mod Laws

@@ -1,0 +1,61 @@
+-- What is computed. A change of the way of computing swaps these definitions behind their names; callers go by the
+-- promises of specs/Promise, and never by this text.
+use mathlib.Core.Bool.{Bool, not, cond}
+use Prim.Native.Nat.{ℕ, zero, suc}
+use lib.Dec.{leb}
+use lib.IntN.{ℤ}
+use lib.Signed.{leZ}
+use Rattle.interval_theory.specs.declared.SignedEnds.{SignedEnds}
+use Rattle.interval_theory.specs.Signed.{betweenOf}
+use Rattle.logarithm_theory.specs.Evaluation.{lnOf}
+use Rattle.scenario_theory.specs.declared.Scenario.{Scenario}
+use Rattle.engine_theory.specs.declared.Answer.{Answer}
+use Rattle.engine_theory.specs.declared.Answer.the-variants as A
+use Rattle.engine_theory.specs.Evaluation.{answerOf}
+use Rattle.millionths_theory.specs.declared.Millionths.{Millionths}
+use Rattle.millionths_theory.specs.declared.MillionthsAnswer.{MillionthsAnswer}
+use Rattle.millionths_theory.specs.declared.MillionthsAnswer.the-variants as M
+use Rattle.millionths_theory.specs.Promise.{million}
+
+-- the engine's ends of ln(k/10^6) for k from 10^6 on, and of −ln(10^6/k) for k before it, of at least 1
+abbrev pub fromMillion : ℕ → SignedEnds
+fromMillion k = betweenOf (lnOf k million .low) 0 (lnOf k million .high) 0
+
+abbrev pub beforeMillion : ℕ → SignedEnds
+beforeMillion k = betweenOf 0 (lnOf million k .high) 0 (lnOf million k .low)
+
+unfoldable pub lnMillionths : ℕ → SignedEnds
+lnMillionths k = cond (leb million k) (fromMillion k) (beforeMillion k)
+
+-- the greatest k, up to the second number, that passes a test; 0 where none does
+unfoldable pub greatest : (ℕ → Bool) → ℕ → ℕ
+greatest test zero = zero
+greatest test (suc k) = cond (test (suc k)) (suc k) (greatest test k)
+
+-- no median has more: 10^6 e^2.1 is less
+abbrev pub most : ℕ
+most = 8_388_607
+
+-- ln(k/10^6) is surely up to z units; and not surely z units or more
+abbrev pub upTo : ℤ → ℕ → Bool
+upTo z k = leZ (lnMillionths k .high) z
+
+abbrev pub below : ℤ → ℕ → Bool
+below z k = not (leZ z (lnMillionths k .low))
+
+-- the one or the other
+abbrev pub passes : Bool → ℤ → ℕ → Bool
+passes upper z k = cond upper (below z k) (upTo z k)
+
+-- from the ends of a logarithm: the greatest a with ln(a/10^6) up to the low one, and the least b with ln(b/10^6) from
+-- the high one on, which comes after the greatest that is below
+unfoldable pub millionthsFrom : SignedEnds → Millionths
+millionthsFrom e = record { low = greatest (upTo (e .low)) most; high = suc (greatest (below (e .high)) most) }
+
+-- of an answer, and of a scenario
+unfoldable pub inMillionths : Answer → MillionthsAnswer
+inMillionths (A.Enclosed e) = M.Between (millionthsFrom (e .median))
+inMillionths (A.Refused k) = M.Refused k
+
+unfoldable pub millionthsOf : Scenario → MillionthsAnswer
+millionthsOf s = inMillionths (answerOf s)
