@@ -177,6 +177,16 @@ static void run_record_in_doubles(const drawn *all, size_t answers)
     consumed_double += sum;
 }
 
+static void run_millionths(const drawn *all, size_t answers)
+{
+    uint64_t sum = 0;
+    for (size_t i = 0; i < answers; i++) {
+        fusnoch_bounds b = fusnoch_millionths(all->scenario[i % SCENARIOS]);
+        sum += (uint64_t)b.number + b.low + b.high;
+    }
+    consumed += sum;
+}
+
 static void run_plain(const drawn *all, size_t answers)
 {
     plain_answer (*answer)(fusnoch_scenario) = all->between ? answer_between_in_plain_c : answer_in_plain_c;
@@ -235,13 +245,14 @@ typedef struct {
     void (*run)(const drawn *all, size_t answers);
 } contestant;
 
-/* The first four are ours; the table of times leaves the last one out. */
-enum { OURS = 4, PLAIN = 4, ARB_TERMS = 5, ARB_TUNED = 6, TIMED = 7, CONTESTANTS = 8 };
+/* The first five are ours; the table of times leaves the last one out.  The peers give logarithms, and no millionths. */
+enum { OURS = 5, PLAIN = 5, ARB_TERMS = 6, ARB_TUNED = 7, TIMED = 8, CONTESTANTS = 9 };
 static const contestant CONTESTANT[CONTESTANTS] = {
     {"fields", "ours, from fields", run_fields},
     {"record", "ours, from a record", run_record},
     {"fields_in_doubles", "ours, from fields, in doubles", run_fields_in_doubles},
     {"record_in_doubles", "ours, from a record, in doubles", run_record_in_doubles},
+    {"millionths", "ours, from fields, in millionths", run_millionths},
     {"plain", "plain C doubles", run_plain},
     {"arb_terms", "Arb, 64 bits, term by term", run_arb_terms},
     {"arb_tuned", "Arb, 64 bits, tuned", run_arb_tuned},
@@ -297,6 +308,22 @@ static int same_in_doubles(fusnoch_answer a, fusnoch_doubles b)
         && (double)a.sigma_low == b.sigma_low && (double)a.sigma_high == b.sigma_high;
 }
 
+/* Say whether 10^6 exp of the ball and our millionths have a point in common; a low of 0 is no bound. */
+static int meets_millionths(const arb_t ball, fusnoch_bounds ours)
+{
+    arb_t millionths;
+    int met;
+    arb_init(millionths);
+    arb_exp(millionths, ball, 128);
+    arb_mul_ui(millionths, millionths, 1000000, 128);
+    arb_sub_ui(millionths, millionths, ours.low, 128);
+    met = ours.number == 0 && (ours.low == 0 || !arb_is_negative(millionths));
+    arb_sub_ui(millionths, millionths, ours.high - ours.low, 128);
+    met = met && ours.low <= ours.high && !arb_is_positive(millionths);
+    arb_clear(millionths);
+    return met;
+}
+
 /* Return what is wrong with the answers to a scenario, or a null pointer. */
 static const char *fault_of(const drawn *all, int i, const answered *a)
 {
@@ -316,6 +343,8 @@ static const char *fault_of(const drawn *all, int i, const answered *a)
         return "a ball of Arb, term by term, does not meet our ends";
     if (!both_meet(a->tuned_median, a->tuned_sigma, a->ours))
         return "a ball of Arb, tuned, does not meet our ends";
+    if (!meets_millionths(a->tuned_median, fusnoch_millionths(all->scenario[i])))
+        return "a ball of Arb does not meet our millionths";
     if (!arb_overlaps(a->terms_median, a->tuned_median) || !arb_overlaps(a->terms_sigma, a->tuned_sigma))
         return "the balls of the two ways of Arb do not meet";
     return NULL;
@@ -416,11 +445,11 @@ static void measure(const drawn all[2], double times[2][TIMED][ROUNDS])
 
 static void print_times(int model, double times[TIMED][ROUNDS])
 {
-    printf("\n%-33s %8s %8s %14s %18s %18s\n", MODEL_NAMES[model - 1], "best", "median", "ours / plain",
+    printf("\n%-34s %8s %8s %14s %18s %18s\n", MODEL_NAMES[model - 1], "best", "median", "ours / plain",
            "Arb terms / ours", "Arb tuned / ours");
     for (int who = 0; who < TIMED; who++) {
         double best = times[who][0];
-        printf("  %-31s %8.1f %8.1f", CONTESTANT[who].title, best, times[who][ROUNDS / 2]);
+        printf("  %-32s %8.1f %8.1f", CONTESTANT[who].title, best, times[who][ROUNDS / 2]);
         if (who < OURS)
             printf(" %14.2f %18.2f %18.2f", best / times[PLAIN][0], times[ARB_TERMS][0] / best,
                    times[ARB_TUNED][0] / best);

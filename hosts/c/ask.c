@@ -5,6 +5,7 @@
    write SCENARIO BYTES   L LENGTH BYTES, or R NUMBER BYTES: what is lent, and as it is afterwards
    answer SCENARIO, answer_record BYTES, doubles SCENARIO, doubles_record BYTES
                           E and four ends, or R NUMBER; a double is printed as the whole number that it equals
+   millionths SCENARIO    E and two whole numbers, or R NUMBER
    words NUMBER           what the number of a refusal stands for
    rows MODEL PERIOD      T and the periods of the two rows that an answer rests on, or R NUMBER
    rows_words MODEL PERIOD
@@ -146,6 +147,16 @@ static void print_doubles(fusnoch_doubles d)
         printf("R %u with ends\n", d.number);
 }
 
+static void print_bounds(fusnoch_bounds b)
+{
+    if (b.number == 0)
+        printf("E %" PRIu32 " %" PRIu32 "\n", b.low, b.high);
+    else if (b.low == 0 && b.high == 0)
+        printf("R %u\n", b.number);
+    else
+        printf("R %u with bounds\n", b.number);
+}
+
 static void print_rows(fusnoch_periods rows)
 {
     if (rows.number == 0)
@@ -219,6 +230,8 @@ static int answer_scenario(const char *name, fusnoch_scenario s)
         print_answer(fusnoch_answer_fields(s));
     else if (strcmp(name, "doubles") == 0)
         print_doubles(fusnoch_answer_fields_in_doubles(s));
+    else if (strcmp(name, "millionths") == 0)
+        print_bounds(fusnoch_millionths(s));
     else
         return 0;
     return 1;

@@ -93,6 +93,7 @@ QUESTIONS = {
     'doubles': lambda *words: ends(fusnoch.answer_in_doubles, scenario_of(words)),
     'answer_record': lambda text: ends(fusnoch.answer_record, taken(text)),
     'doubles_record': lambda text: ends(fusnoch.answer_record_in_doubles, taken(text)),
+    'millionths': lambda *words: ends(fusnoch.millionths, scenario_of(words)),
     'words': lambda text: Refused(int(text)).words,
     'rows': periods,
     'rows_words': lambda *words: fusnoch.rows_words(*map(int, words)),

@@ -6,7 +6,7 @@ repository's target/lib.
 
 import ctypes
 import os
-from ctypes import c_char_p, c_double, c_int64, c_size_t, c_uint8, c_uint16, c_void_p
+from ctypes import c_char_p, c_double, c_int64, c_size_t, c_uint8, c_uint16, c_uint32, c_void_p
 from dataclasses import dataclass, field
 from typing import NamedTuple, Optional
 
@@ -72,6 +72,10 @@ class _Doubles(ctypes.Structure):
     _fields_ = [('number', c_uint8), ('ends', c_double * 4)]
 
 
+class _Bounds(ctypes.Structure):
+    _fields_ = [('number', c_uint8), ('low', c_uint32), ('high', c_uint32)]
+
+
 class _Periods(ctypes.Structure):
     _fields_ = [('number', c_uint8), ('lower', c_uint16), ('upper', c_uint16)]
 
@@ -95,6 +99,7 @@ def _load():
             ('answer_record', _Answer, c_char_p, c_size_t),
             ('answer_fields_in_doubles', _Doubles, _Scenario),
             ('answer_record_in_doubles', _Doubles, c_char_p, c_size_t),
+            ('millionths', _Bounds, _Scenario),
             ('read', _Reading, c_char_p, c_size_t),
             ('write', _Writing, _Scenario, c_void_p, c_size_t)):
         function = getattr(library, f'fusnoch_{name}')
@@ -150,6 +155,13 @@ class Enclosure(NamedTuple):
     median_high: int
     sigma_low: int
     sigma_high: int
+
+
+class Millionths(NamedTuple):
+    """Two whole numbers of millionths of g between which a median lies; a low of 0 sets no bound."""
+
+    low: int
+    high: int
 
 
 def _name(period):
@@ -247,6 +259,16 @@ def answer_record_in_doubles(data):
     """Return the same in floats that equal the whole numbers."""
     given = _bytes(data)
     return _ends(LIBRARY.fusnoch_answer_record_in_doubles(given, len(given)))
+
+
+def millionths(scenario):
+    """Return the median of a scenario in millionths of g.
+
+    The exact one lies from low to high, and high less low is at most 2 and high/100,000, rounded down.
+    """
+    bounds = LIBRARY.fusnoch_millionths(c_scenario(scenario))
+    _unless_refused(bounds.number)
+    return Millionths(bounds.low, bounds.high)
 
 
 def read(data):

@@ -5,18 +5,22 @@ ghost use Rattle.scenario_theory.specs.Neighbours.{rowPeriodsOf};
 ghost use Rattle.record_theory.specs.Outcome.{scenarioIn, readRefusal, readOf, writeOf, lentAfter};
 ghost use Rattle.engine_theory.specs.Evaluation.{answerOf, recordAnswerOf, inDoubles};
 ghost use Rattle.engine_theory.specs.Flat.{told};
-ghost use Rattle.host_theory.specs.Told.{scenarioFrom, toldPeriods, toldDoubles, toldReading, toldWriting};
-ghost use Rattle.host_theory.specs.Promise.{HostAnswerPromise, HostDoublesPromise, HostReadingPromise};
-ghost use Rattle.host_theory.specs.Promise.{HostWritingPromise, rowsRefusal, HostRowsPromise};
+ghost use Rattle.millionths_theory.specs.Evaluation.{millionthsOf};
+ghost use Rattle.host_theory.specs.Told.{scenarioFrom, toldPeriods, toldDoubles, toldBounds, toldReading};
+ghost use Rattle.host_theory.specs.Told.{toldWriting};
+ghost use Rattle.host_theory.specs.Promise.{HostAnswerPromise, HostDoublesPromise, HostBoundsPromise};
+ghost use Rattle.host_theory.specs.Promise.{HostReadingPromise, HostWritingPromise, rowsRefusal, HostRowsPromise};
 use engine_theory::DoublesAnswer;
 use engine_theory::FlatAnswer;
 use host_scenario::fields_of;
 use host_scenario::scenario_from;
 use host_theory::HostDoubles;
+use host_theory::HostBounds;
 use host_theory::HostPeriods;
 use host_theory::HostReading;
 use host_theory::HostScenario;
 use host_theory::HostWriting;
+use millionths_theory::MillionthsAnswer;
 use record_theory::Reading;
 use record_theory::Writing;
 use scenario_theory::RowPeriods;
@@ -110,6 +114,27 @@ pub extern "C" fn fusnoch_answer_record_in_doubles(bytes: &[u8]) -> HostDoubles
         (told (recordAnswerOf (now (bytes .entry)))) r ⌝ }
 {
     tell_doubles(engine::answer_record_in_doubles(bytes))
+}
+
+// Answers a scenario of any fields with its median in millionths of g: the exact median lies from low to high, and high
+// less low is at most 2 and high/100,000, rounded down. It is turned away as fusnoch_answer_fields turns it away.
+#[no_mangle]
+pub extern "C" fn fusnoch_millionths(s: HostScenario) -> HostBounds
+    ensures { λ r. ⌜ r ≡ toldBounds (millionthsOf (scenarioFrom s)) ⌝ }
+    ensures { λ r. ⌜ HostBoundsPromise (refusalOf (scenarioFrom s)) (scenarioFrom s) r ⌝ }
+{
+    match millionths::answer_fields(scenario_from(s)) {
+        MillionthsAnswer::Between(m) => HostBounds {
+            number: 0,
+            low: m.low,
+            high: m.high,
+        },
+        MillionthsAnswer::Refused(number) => HostBounds {
+            number,
+            low: 0,
+            high: 0,
+        },
+    }
 }
 
 // Reads the record at the front of any bytes.

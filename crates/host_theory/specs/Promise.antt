@@ -1,5 +1,5 @@
 -- What is promised of the structs that C is told, whatever the engine computes: demand 3 once more, by their numbers
--- and ends, demand 2 for reading and writing, and W-201 for the rows.
+-- and ends, demand 2 for reading and writing, W-201 for the rows and W-203 for millionths.
 use mathlib.Core.Path.{_≡_}
 use mathlib.Core.Bool.{not, _||_}
 use mathlib.Core.List.{List, [], _∷_}
@@ -15,8 +15,11 @@ use Rattle.record_theory.specs.Layout.{recordOf}
 use Rattle.record_theory.specs.Outcome.{mapIn, scenarioIn, lengthBy, readRefusal, writeRefusal}
 use Rattle.engine_theory.specs.declared.FlatAnswer.{FlatAnswer}
 use Rattle.engine_theory.specs.Promise.{AllEqual}
+use Rattle.engine_theory.specs.Models.{median}
 use Rattle.engine_theory.specs.Flat.{endsIn, FlatPromise}
+use Rattle.millionths_theory.specs.Promise.{MillionthsEnds}
 use Rattle.host_theory.specs.declared.HostDoubles.{HostDoubles}
+use Rattle.host_theory.specs.declared.HostBounds.{HostBounds}
 use Rattle.host_theory.specs.declared.HostPeriods.{HostPeriods}
 use Rattle.host_theory.specs.declared.HostReading.{HostReading}
 use Rattle.host_theory.specs.declared.HostWriting.{HostWriting}
@@ -35,6 +38,13 @@ pub record HostDoublesPromise (k : ℕ) (s : Scenario) (a : FlatAnswer) (d : Hos
   pub whole : HostAnswerPromise k s a
   pub number : d .number ≡ a .number
   pub equal : AllEqual (doublesIn d) (endsIn a)
+
+-- a median in millionths of g, where k is the number of the first check that applies: what the model of s gives lies
+-- between the two, and with a refusal they are zeros (W-203)
+pub record HostBoundsPromise (k : ℕ) (s : Scenario) (m : HostBounds) : Type 0 where
+  pub number : m .number ≡ k
+  pub between : k ≡ 0 → MillionthsEnds (median s) (m .low) (m .high)
+  pub zeros : (k ≡ 0 → ⊥) → (m .low ≡ 0) × (m .high ≡ 0)
 
 -- a flag is 0, with 0 for its number, or 1
 abbrev pub PlainFlag : ℕ → ℕ → Type 0

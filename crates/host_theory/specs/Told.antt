@@ -1,5 +1,5 @@
--- What C is told beside the plain struct of an answer: structs for the engine's scenario, doubles, rows, readings and
--- writings. An enum does not pass, so a refused one is the number with zeros, and an accepted one has the number 0.
+-- What C is told beside the plain struct of an answer: structs for the engine's scenario, doubles, millionths, rows,
+-- readings and writings. An enum does not pass, so a refused one is the number with zeros, and an accepted one has the number 0.
 use mathlib.Core.Bool.{cond}
 use mathlib.Core.Option.{Option, none, some}
 use Prim.Native.Nat.{ℕ}
@@ -15,9 +15,12 @@ use Rattle.record_theory.specs.declared.Writing.{Writing}
 use Rattle.record_theory.specs.declared.Writing.the-variants as W
 use Rattle.engine_theory.specs.declared.DoublesAnswer.{DoublesAnswer}
 use Rattle.engine_theory.specs.declared.DoublesAnswer.the-variants as D
+use Rattle.millionths_theory.specs.declared.MillionthsAnswer.{MillionthsAnswer}
+use Rattle.millionths_theory.specs.declared.MillionthsAnswer.the-variants as M
 use Rattle.host_theory.specs.declared.HostScenario.{HostScenario}
 use Rattle.host_theory.specs.declared.Flagged.{Flagged}
 use Rattle.host_theory.specs.declared.HostDoubles.{HostDoubles}
+use Rattle.host_theory.specs.declared.HostBounds.{HostBounds}
 use Rattle.host_theory.specs.declared.HostPeriods.{HostPeriods}
 use Rattle.host_theory.specs.declared.HostReading.{HostReading}
 use Rattle.host_theory.specs.declared.HostWriting.{HostWriting}
@@ -93,6 +96,11 @@ toldDoubles (D.Refused k) = record {
   «sigma_low» = zeroDouble;
   «sigma_high» = zeroDouble;
 }
+
+-- "whole numbers a and b of millionths of g", or the refusal number (W-203)
+abbrev pub toldBounds : MillionthsAnswer → HostBounds
+toldBounds (M.Between m) = record { number = 0; low = m .low; high = m .high }
+toldBounds (M.Refused k) = record { number = k; low = 0; high = 0 }
 
 -- the periods of the rows that a median rests on (W-201)
 abbrev pub toldPeriods : RowPeriods → HostPeriods

@@ -34,6 +34,15 @@ pub struct HostDoubles {
     pub sigma_high: f64,
 }
 
+// A median in millionths of g: number 0 and two whole numbers of millionths between which it lies, of which a low of 0
+// sets no bound; or the number of the refusal, and zeros.
+#[repr(C)]
+pub struct HostBounds {
+    pub number: u8,
+    pub low: u32,
+    pub high: u32,
+}
+
 // The periods of two rows of a model's tables, in 0.001 s: number 0 and those of the rows that the median rests on, and
 // the sigma of model 2, the one below the period and the one above it, equal where the period has a row of its own
 // (peak acceleration, period 0, has 10 and 10 by model 1, and by model 2 the row PGA, 0 and 0); or the number of the

@@ -47,6 +47,14 @@ pub struct Enclosure<End = i64> {
     pub sigma_high: End,
 }
 
+/// Two whole numbers of millionths of g between which a median lies; a low of 0 sets no bound.
+#[repr(C)]
+#[derive(Clone, Copy, Debug, PartialEq, Eq)]
+pub struct Millionths {
+    pub low: u32,
+    pub high: u32,
+}
+
 /// The periods, in 0.001 s, of the two rows that a median rests on, equal where it is one; 0 is the row PGA. Shown, it
 /// is `between 0.050 and 0.075` or `the row 0.075`.
 #[repr(C)]
@@ -105,7 +113,7 @@ impl std::error::Error for Refusal {}
 
 /// The functions of fusnoch.h.
 mod raw {
-    use super::{Enclosure, ProjectionDistance, Rows, RuptureDistance};
+    use super::{Enclosure, Millionths, ProjectionDistance, Rows, RuptureDistance};
 
     /// A distance whose flag is 0 is absent, whatever its number.
     #[repr(C)]
@@ -158,6 +166,12 @@ mod raw {
     }
 
     #[repr(C)]
+    pub struct Bounds {
+        pub number: u8,
+        pub millionths: Millionths,
+    }
+
+    #[repr(C)]
     pub struct Periods {
         pub number: u8,
         pub rows: Rows,
@@ -183,6 +197,7 @@ mod raw {
         pub fn fusnoch_answer_record(bytes: *const u8, length: usize) -> Answer<i64>;
         pub fn fusnoch_answer_fields_in_doubles(s: Scenario) -> Answer<f64>;
         pub fn fusnoch_answer_record_in_doubles(bytes: *const u8, length: usize) -> Answer<f64>;
+        pub fn fusnoch_millionths(s: Scenario) -> Bounds;
         pub fn fusnoch_read(bytes: *const u8, length: usize) -> Reading;
         pub fn fusnoch_write(s: Scenario, out: *mut u8, length: usize) -> Writing;
     }
@@ -238,6 +253,13 @@ pub fn answer_in_doubles(scenario: &Scenario) -> Result<Enclosure<f64>, Refusal>
 pub fn answer_record_in_doubles(bytes: &[u8]) -> Result<Enclosure<f64>, Refusal> {
     let answer = unsafe { raw::fusnoch_answer_record_in_doubles(bytes.as_ptr(), bytes.len()) };
     unless_refused(answer.number, answer.ends)
+}
+
+/// The median in millionths of g: the exact one lies from low to high, and high less low is at most 2 and
+/// high/100,000, rounded down.
+pub fn millionths(scenario: &Scenario) -> Result<Millionths, Refusal> {
+    let bounds = unsafe { raw::fusnoch_millionths(scenario.into()) };
+    unless_refused(bounds.number, bounds.millionths)
 }
 
 /// The scenario of the record at the front of the bytes, and the bytes after it.

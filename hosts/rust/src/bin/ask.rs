@@ -5,7 +5,7 @@ use std::fmt::Display;
 use std::io::{self, BufRead, Write};
 use std::process::ExitCode;
 
-use fusnoch::{Enclosure, ProjectionDistance, Refusal, Rows, RuptureDistance, Scenario};
+use fusnoch::{Enclosure, Millionths, ProjectionDistance, Refusal, Rows, RuptureDistance, Scenario};
 
 fn take_bytes(text: &str) -> Option<Box<[u8]>> {
     if text == "-" {
@@ -56,6 +56,13 @@ fn show_distance(distance: Option<u16>) -> String {
 fn show_answer<End: Display>(answer: Result<Enclosure<End>, Refusal>) -> String {
     match answer {
         Ok(e) => format!("E {} {} {} {}", e.median_low, e.median_high, e.sigma_low, e.sigma_high),
+        Err(refusal) => format!("R {}", refusal.0),
+    }
+}
+
+fn show_millionths(millionths: Result<Millionths, Refusal>) -> String {
+    match millionths {
+        Ok(millionths) => format!("E {} {}", millionths.low, millionths.high),
         Err(refusal) => format!("R {}", refusal.0),
     }
 }
@@ -128,6 +135,7 @@ fn answer(line: &str) -> Option<String> {
         ("refusal", fields) => number(fusnoch::check(&take_scenario(fields)?)).to_string(),
         ("answer", fields) => show_answer(fusnoch::answer(&take_scenario(fields)?)),
         ("doubles", fields) => show_answer(fusnoch::answer_in_doubles(&take_scenario(fields)?)),
+        ("millionths", fields) => show_millionths(fusnoch::millionths(&take_scenario(fields)?)),
         ("write", [fields @ .., bytes]) => show_writing(&take_scenario(fields)?, take_bytes(bytes)?),
         _ => return None,
     })
