@@ -1,14 +1,16 @@
 // Answers a scenario with its median in millionths of g: two whole numbers between which the exact value lies, or the
 // number of its refusal.
 ghost use mathlib.Core.Path.{_≡_};
-ghost use Prim.Native.Nat.{_+_, _^_, _≤_, _<_};
+ghost use Prim.Native.Nat.{suc, _+_, _^_, _≤_, _<_};
 ghost use Rattle.scenario_theory.specs.Refusal.{refusalOf};
 ghost use Rattle.millionths_theory.specs.Promise.{FromEnds, MillionthsPromise};
-ghost use Rattle.millionths_theory.specs.Evaluation.{lnMillionths, greatest, most, passes, millionthsFrom, millionthsOf};
+ghost use Rattle.millionths_theory.specs.Evaluation.{lnMillionths, most, floorOf, ceilingAfter, millionthsFrom};
+ghost use Rattle.millionths_theory.specs.Evaluation.{millionthsOf};
 use engine_theory::Answer;
 use interval::between;
 use interval_theory::SignedEnds;
 use logarithm::ln;
+use millionths_theory::Floor;
 pub use millionths_theory::Millionths;
 pub use millionths_theory::MillionthsAnswer;
 use order::max;
@@ -18,7 +20,7 @@ use signed::unsigned_abs;
 
 // ln(k/10^6).
 fn ln_millionths(k: u64) -> SignedEnds
-    requires { ⌜ (1 ≤ k) × (k ≤ most) ⌝ }
+    requires { ⌜ (1 ≤ k) × (k ≤ suc most) ⌝ }
     ensures { λ r. ⌜ r ≡ lnMillionths k ⌝ }
 {
     if 1_000_000 <= k {
@@ -29,35 +31,40 @@ fn ln_millionths(k: u64) -> SignedEnds
     between(0, e.high, 0, e.low)
 }
 
-// Whether ln(k/10^6) is surely up to z; or not surely z or more.
-fn passes(upper: bool, z: i64, k: u64) -> bool
-    requires { ⌜ (1 ≤ k) × (k ≤ most) ⌝ }
-    ensures { λ r. ⌜ r ≡ passes upper z k ⌝ }
-{
-    let e = ln_millionths(k);
-    if upper {
-        return !(z <= e.low);
-    }
-    e.high <= z
-}
-
-// The greatest that passes. The search begins at what is given, wherever that is, and goes on from there: so it is short
-// where that is near.
-fn greatest(upper: bool, z: i64, near: u64) -> u64
-    ensures { λ r. ⌜ r ≡ greatest (passes upper z) most ⌝ }
-    ensures { λ r. ⌜ r ≤ most ⌝ }
+// The greatest k with ln(k/10^6) up to z, and the low end of the next. The search begins at what is given, wherever that
+// is, and goes on from there: it is short where that is near.
+fn floor(z: i64, near: u64) -> Floor
+    ensures { λ r. ⌜ r ≡ floorOf z ⌝ }
 {
     let mut low = 0;
     let mut high = 8_388_608;
+    let mut next = 2_126_874_594;
     while 1 < high - low {
         let k = min(max(near, low + 1), high - 1);
-        if passes(upper, z, k) {
+        let e = ln_millionths(k);
+        if e.high <= z {
             low = k;
         } else {
             high = k;
+            next = e.low;
         }
     }
-    low
+    Floor { whole: low, next }
+}
+
+// The first k after a with ln(k/10^6) from z on; the low end of the next after a is given.
+fn ceiling_after(a: u64, next: i64, z: i64) -> u64
+    requires { ⌜ (a ≤ most) × (next ≡ lnMillionths (a + 1) .low) ⌝ }
+    ensures { λ r. ⌜ r ≡ ceilingAfter a z ⌝ }
+{
+    let mut k = a + 1;
+    let mut low = next;
+    while k < 8_388_608 && !(z <= low) {
+        k = k + 1;
+        let e = ln_millionths(k);
+        low = e.low;
+    }
+    k
 }
 
 // c + r f, where f is in units of 2^-32.
@@ -102,11 +109,11 @@ pub fn from_ends(e: SignedEnds) -> Millionths
     ensures { λ r. ⌜ r ≡ millionthsFrom e ⌝ }
     ensures { λ r. ⌜ FromEnds e r ⌝ }
 {
-    let low = greatest(false, e.low, near(e.low));
-    let high = greatest(true, e.high, low) + 1;
+    let a = floor(e.low, near(e.low));
+    let b = ceiling_after(a.whole, a.next, e.high);
     Millionths {
-        low: low as u32,
-        high: high as u32,
+        low: a.whole as u32,
+        high: b as u32,
     }
 }
 

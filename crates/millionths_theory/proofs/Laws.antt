@@ -37,92 +37,95 @@ use Rattle.engine_theory.specs.Evaluation.{answerBy, answerOf}
 use Rattle.engine_theory.proofs.Laws.{promised, in-range}
 use Rattle.engine_theory.proofs.FlatLaws.{none-enclose}
 use Rattle.millionths_theory.specs.declared.Millionths.{Millionths}
+use Rattle.millionths_theory.specs.declared.Floor.{Floor}
 use Rattle.millionths_theory.specs.declared.MillionthsAnswer.{MillionthsAnswer}
 use Rattle.millionths_theory.specs.Promise.{million, MeetsMillionths, BetweenMillionths, Gap, MillionthsEnds}
 use Rattle.millionths_theory.specs.Promise.{widest, Convertible, FromEnds, MillionthsPromise}
-use Rattle.millionths_theory.specs.Evaluation.{lnMillionths, greatest, most, upTo, below, millionthsFrom}
-use Rattle.millionths_theory.specs.Evaluation.{inMillionths, millionthsOf}
-use Rattle.millionths_theory.proofs.Greatest.{at-most, passes, next-fails}
-use Rattle.millionths_theory.proofs.Order.{ln-encloses, ordered, apart, rising}
+use Rattle.millionths_theory.specs.Evaluation.{lnMillionths, most, greatest, upTo, floorOf, from, ceilingAfter}
+use Rattle.millionths_theory.specs.Evaluation.{millionthsFrom, inMillionths, millionthsOf}
+use Rattle.millionths_theory.proofs.Search.{at-most, passes, next-fails, from-start, soon, first-passes, before-fails}
+use Rattle.millionths_theory.proofs.Order.{ln-encloses, apart}
 
 -- units are in order as their numbers are
 units-order : (y z : ℤ) → T (leZ y z) → units y ≤q units z
 unfolding units
 units-order y z t = le-of (over-Is y unit (omega arith)) (over-Is z unit (omega arith)) (omega (arith, le-out y z t))
 
-not-fails : (x : Bool) → T (not (not x)) → T x
-not-fails true t = tt
-not-fails false t = t
-
--- no median is above ln((most + 1)/10^6)
-last : T (leZ (pos medianMost) (lnMillionths (suc most) .low))
+-- ln((most + 1)/10^6), which no median is above
+pub last : lnMillionths (suc most) .low ≡ pos 2_126_874_594
 unfolding lnMillionths betweenOf lnOf scaledLnOf scaledOf mantissaLnOf nearOneOf coarseAt fineAt leadingZeros
-last = tt
+last = refl
+
+-- ---- the two searches
+
+pub floored : {r : Floor} (z : ℤ) → r ≡ floorOf z →
+    (r .whole ≤ most) × (r .next ≡ lnMillionths (r .whole + 1) .low) × (r .whole ≡ greatest (upTo z) most)
+unfolding floorOf
+floored z e =
+    let a = greatest (upTo z) most in
+    let one : a + 1 ≡ suc a = omega arith in
+    rw e (at-most (upTo z) most, rw one refl, refl)
+
+pub ceiling-most : (a : ℕ) (z : ℤ) → a ≤ most → ceilingAfter a z ≤ suc most
+unfolding ceilingAfter
+ceiling-most a z h = omega (arith, soon (from z) (most - a) (suc a))
+
+-- ---- what is promised of the two numbers from ends that enclose f
 
 module _ {f : Formula} (e : SignedEnds) (c : Convertible f e) where
   abbrev a : ℕ
   a = greatest (upTo (e .low)) most
 
-  -- b is the next
-  abbrev before : ℕ
-  before = greatest (below (e .high)) most
+  abbrev b : ℕ
+  b = ceilingAfter a (e .high)
 
   a-most : a ≤ most
   a-most = at-most (upTo (e .low)) most
 
-  before-most : before ≤ most
-  before-most = at-most (below (e .high)) most
+  b-after : a < b
+  unfolding ceilingAfter
+  b-after = from-start (from (e .high)) (most - a) (suc a)
+
+  b-most : b ≤ suc most
+  b-most = ceiling-most a (e .high) a-most
 
   -- ln(a/10^6) is up to the low end
-  low-holds : 1 ≤ a → T (leZ (lnMillionths a .high) (e .low))
-  low-holds h = passes (upTo (e .low)) most h
+  a-holds : 1 ≤ a → T (leZ (lnMillionths a .high) (e .low))
+  a-holds h = passes (upTo (e .low)) most h
 
   -- ln(b/10^6) is from the high end on
-  high-holds : T (leZ (e .high) (lnMillionths (suc before) .low))
-  unfolding up down
-  high-holds = elim (decLt before most) [
-    | yes h ↦ not-fails (leZ (e .high) (lnMillionths (suc before) .low)) (next-fails (below (e .high)) most h)
+  b-holds : T (leZ (e .high) (lnMillionths b .low))
+  unfolding up down ceilingAfter
+  b-holds = elim (decLe b most) [
+    | yes h ↦ first-passes (from (e .high)) (most - a) (suc a) (omega (arith, a-most))
     | no h ↦
-        let all : before ≡ most = omega (arith, before-most) in
-        rw all (le-in (e .high) (lnMillionths (suc most) .low) (omega (
-          arith,
-          le-out (e .high) (pos medianMost) (c .few .le),
-          le-out (pos medianMost) (lnMillionths (suc most) .low) last,
-        )))
+        let all : b ≡ suc most = omega (arith, b-most) in
+        rw (all, last) (le-in (e .high) _ (omega (arith, le-out (e .high) (pos medianMost) (c .few .le))))
   ]
 
-  -- what comes after a is above the low end, and what comes before b is below the high end
-  gap : Gap a (suc before)
-  unfolding up down
-  gap = elim (decLe before (suc a)) [
+  -- a + 1 is not surely up to the low end, and b − 1 not surely from the high end on: they are near
+  gap : Gap a b
+  unfolding up down ceilingAfter
+  gap = elim (decLe b (a + 2)) [
     | yes h ↦ omega arith
     | no h ↦
-        let after = gt-out (lnMillionths (suc a) .high) (e .low) (next-fails (upTo (e .low)) most (omega (arith, before-most))) in
-        let ahead = gt-out (e .high) (lnMillionths before .low) (passes (below (e .high)) most (omega arith)) in
-        let narrow = le-out (e .high) (e .low +ℤ pos widest) (c .narrow .le) in
-        elim (decLe ((widest + 3 * lnWidth) * before) ((before - suc a) * unit)) [
+        let after = next-fails (upTo (e .low)) most (omega (arith, b-most)) in
+        let before = before-fails (from (e .high)) (most - a) (suc a) (b - 1) (omega arith) (omega arith) in
+        elim (decLe ((widest + 3 * lnWidth) * (b - 1)) ((b - 1 - suc a) * unit)) [
           | yes wide ↦
-              let steps = apart {j = suc a} {k = before} widest (omega arith) (omega arith) (omega (arith, before-most)) wide in
-              absurd (omega (arith, after, ahead, narrow, add-is (e .low) (pos widest), steps))
+              absurd (omega (
+                arith,
+                gt-out (lnMillionths (suc a) .high) (e .low) after,
+                gt-out (e .high) (lnMillionths (b - 1) .low) before,
+                apart {j = suc a} {k = b - 1} widest (omega arith) (omega arith) (omega (arith, b-most)) wide,
+                le-out (e .high) (e .low +ℤ pos widest) (c .narrow .le),
+                add-is (e .low) (pos widest),
+              ))
           | no near ↦ omega arith
         ]
   ]
 
-  order : a ≤ suc before
-  order = elim (decLe a (suc before)) [
-    | yes h ↦ h
-    | no h ↦ absurd (omega (
-      arith,
-      le-out (lnMillionths a .high) (e .low) (low-holds (omega arith)),
-      le-out (e .low) (e .high) (in-order (c .encloses) .le),
-      le-out (e .high) (lnMillionths (suc before) .low) high-holds,
-      ordered (suc before) (omega arith) (omega (arith, before-most)),
-      ordered a (omega arith) (omega (arith, a-most)),
-      rising {j = suc before} {k = a} (omega arith) (omega arith) (omega (arith, a-most)),
-    ))
-  ]
-
-  meets : (n : ℕ) → 1 ≤ n → MeetsMillionths n f a (suc before)
+  meets : (n : ℕ) → 1 ≤ n → MeetsMillionths n f a b
   unfolding eval ends
   meets n g =
       let m = c .encloses .meets n g in
@@ -132,18 +135,18 @@ module _ {f : Formula} (e : SignedEnds) (c : Convertible f e) where
         from = λ some.
             let l = ln-encloses a (omega arith) (omega (arith, a-most)) .meets n g in
             ≤q-trans (≤q-trans (l .right .from) (l .left .to))
-            (≤q-trans (units-order _ _ (low-holds (omega arith))) (m .left .from));
+            (≤q-trans (units-order _ _ (a-holds (omega arith))) (m .left .from));
         to =
-            let l = ln-encloses (suc before) (omega arith) (omega (arith, before-most)) .meets n g in
-            ≤q-trans (≤q-trans (m .left .to) (units-order _ _ high-holds)) (≤q-trans (l .left .from) (l .right .to));
+            let l = ln-encloses b (omega (arith, b-after)) (omega (arith, b-most)) .meets n g in
+            ≤q-trans (≤q-trans (m .left .to) (units-order _ _ b-holds)) (≤q-trans (l .left .from) (l .right .to));
       }
 
   -- what is promised of the two
   converts : MillionthsEnds f (millionthsFrom e .low) (millionthsFrom e .high)
   unfolding millionthsFrom
   converts = record {
-    between = record { some = omega arith; defined = c .encloses .defined; meets = meets };
-    order = order;
+    between = record { some = omega (arith, b-after); defined = c .encloses .defined; meets = meets };
+    order = omega (arith, b-after);
     gap = gap;
   }
 

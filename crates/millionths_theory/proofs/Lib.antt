@@ -1,3 +1,3 @@
-pub mod Greatest
+pub mod Search
 pub mod Order
 pub mod Laws

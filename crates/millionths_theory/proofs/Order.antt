@@ -1,6 +1,5 @@
 -- The ends of ln(k/10^6): they enclose it, and those of a greater k are above those of a lesser one.
 use mathlib.Core.Path.{_≡_}
-use mathlib.Core.Bool.{Bool, true, false}
 use Prim.Native.Nat.{ℕ, suc, _+_, _*_, _-_, _^_, _≤_, _<_}
 use native.Mathlib.Nat.{le-of-mul-le-mul-right}
 use native.Mathlib.Decide.{decLt}
@@ -24,8 +23,8 @@ use Rattle.logarithm_theory.proofs.Laws.{lnOf-rounded, lnOf-least}
 use Rattle.logarithm_theory.proofs.Chain.{lnOf-chain, lnOf-steps}
 use Rattle.logarithm_theory.proofs.Enclosure.{encloses}
 use Rattle.millionths_theory.specs.Promise.{million}
-use Rattle.millionths_theory.specs.Evaluation.{fromMillion, beforeMillion, lnMillionths, most, upTo, below, passes}
-use Rattle.millionths_theory.proofs.Greatest.{Falls}
+use Rattle.millionths_theory.specs.Evaluation.{fromMillion, beforeMillion, lnMillionths, most, upTo}
+use Rattle.millionths_theory.proofs.Search.{Falls}
 
 -- ---- they enclose it
 
@@ -90,46 +89,21 @@ module _ {j k : ℕ} (g : ℕ) (some : 1 ≤ j) (order : j ≤ k) (small : k < 2
       let steps = lnOf-steps {a = million} {b = k} {c = j} (omega arith) order (omega (arith, nleb→lt million k u)) in
       between-above g _ _ 0 _ 0 _ _ _ (omega (arith, steps .denominators g wide))))
 
--- ---- so a logarithm that passes a test is passed by all before it
+-- ---- so all before one that is up to z units are
 
--- the ends of k are in order
-pub ordered : (k : ℕ) → 1 ≤ k → k ≤ suc most →
+-- the low end of k is not above the high end
+ordered : (k : ℕ) → 1 ≤ k → k < 2 ^ 29 →
     up (lnMillionths k .low) + down (lnMillionths k .high) ≤ up (lnMillionths k .high) + down (lnMillionths k .low)
-ordered k some few = le-out (lnMillionths k .low) (lnMillionths k .high) (in-order (ln-encloses k some (omega arith)) .le)
+ordered k some small = le-out (lnMillionths k .low) (lnMillionths k .high) (in-order (ln-encloses k some small) .le)
 
-pub rising : {j k : ℕ} → 1 ≤ j → j < k → k ≤ suc most → Above 1 (lnMillionths j) (lnMillionths k)
-rising some less few = apart 1 some (omega arith) (omega arith) (omega arith)
-
--- a property of k holds of all before it
-falling : (K : ℕ → Type 0) → ((j k : ℕ) → 1 ≤ j → j < k → k ≤ most → K k → K j) → (j k : ℕ) → 1 ≤ j → j ≤ k → k ≤ most →
-    K k → K j
-falling K step j k some order few h = elim (decLt j k) [
-  | yes l ↦ step j k some l few h
-  | no l ↦ let e : j ≡ k = omega arith in rw e h
+pub upTo-falls : (z : ℤ) → Falls most (upTo z)
+upTo-falls z j k some order few t = elim (decLt j k) [
+  | yes less ↦
+      le-in (lnMillionths j .high) z (omega (
+        arith,
+        apart {j = j} {k = k} 0 some order (omega arith) (omega arith),
+        ordered k (omega arith) (omega arith),
+        le-out (lnMillionths k .high) z t,
+      ))
+  | no same ↦ let e : j ≡ k = omega arith in rw e t
 ]
-
-upTo-falls : (z : ℤ) → Falls most (upTo z)
-upTo-falls z = falling (λ k. T (upTo z k))
-    (λ j k some less few t.
-    le-in (lnMillionths j .high) z (omega (
-      arith,
-      rising some less (omega arith),
-      ordered k (omega arith) (omega arith),
-      le-out (lnMillionths k .high) z t,
-    )))
-
-below-falls : (z : ℤ) → Falls most (below z)
-below-falls z = falling (λ k. T (below z k))
-    (λ j k some less few t.
-    not-T (leZ z (lnMillionths j .low))
-    (λ u. absurd (omega (
-      arith,
-      rising some less (omega arith),
-      ordered j (omega arith) (omega arith),
-      gt-out z (lnMillionths k .low) t,
-      le-out z (lnMillionths j .low) u,
-    ))))
-
-pub falls : (upper : Bool) (z : ℤ) → Falls most (passes upper z)
-falls true = below-falls
-falls false = upTo-falls

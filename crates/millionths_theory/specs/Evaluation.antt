@@ -1,7 +1,7 @@
 -- What is computed. A change of the way of computing swaps these definitions behind their names; callers go by the
 -- promises of specs/Promise, and never by this text.
-use mathlib.Core.Bool.{Bool, not, cond}
-use Prim.Native.Nat.{ℕ, zero, suc}
+use mathlib.Core.Bool.{Bool, cond}
+use Prim.Native.Nat.{ℕ, zero, suc, _-_}
 use lib.Dec.{leb}
 use lib.IntN.{ℤ}
 use lib.Signed.{leZ}
@@ -13,6 +13,7 @@ use Rattle.engine_theory.specs.declared.Answer.{Answer}
 use Rattle.engine_theory.specs.declared.Answer.the-variants as A
 use Rattle.engine_theory.specs.Evaluation.{answerOf}
 use Rattle.millionths_theory.specs.declared.Millionths.{Millionths}
+use Rattle.millionths_theory.specs.declared.Floor.{Floor}
 use Rattle.millionths_theory.specs.declared.MillionthsAnswer.{MillionthsAnswer}
 use Rattle.millionths_theory.specs.declared.MillionthsAnswer.the-variants as M
 use Rattle.millionths_theory.specs.Promise.{million}
@@ -27,30 +28,41 @@ beforeMillion k = betweenOf 0 (lnOf million k .high) 0 (lnOf million k .low)
 unfoldable pub lnMillionths : ℕ → SignedEnds
 lnMillionths k = cond (leb million k) (fromMillion k) (beforeMillion k)
 
+-- no median has more: 10^6 e^2.1 is less
+abbrev pub most : ℕ
+most = 8_388_607
+
 -- the greatest k, up to the second number, that passes a test; 0 where none does
 unfoldable pub greatest : (ℕ → Bool) → ℕ → ℕ
 greatest test zero = zero
 greatest test (suc k) = cond (test (suc k)) (suc k) (greatest test k)
 
--- no median has more: 10^6 e^2.1 is less
-abbrev pub most : ℕ
-most = 8_388_607
-
--- ln(k/10^6) is surely up to z units; and not surely z units or more
+-- ln(k/10^6) is surely up to z units
 abbrev pub upTo : ℤ → ℕ → Bool
 upTo z k = leZ (lnMillionths k .high) z
 
-abbrev pub below : ℤ → ℕ → Bool
-below z k = not (leZ z (lnMillionths k .low))
+-- the greatest such k, and the low end of the next
+unfoldable pub floorOf : ℤ → Floor
+floorOf z = let a : ℕ = greatest (upTo z) most in record { whole = a; next = lnMillionths (suc a) .low }
 
--- the one or the other
-abbrev pub passes : Bool → ℤ → ℕ → Bool
-passes upper z k = cond upper (below z k) (upTo z k)
+-- the first k, from the third number on, that passes a test, or the next after so many that do not
+unfoldable pub first : (ℕ → Bool) → ℕ → ℕ → ℕ
+first test zero k = k
+first test (suc n) k = cond (test k) k (first test n (suc k))
 
--- from the ends of a logarithm: the greatest a with ln(a/10^6) up to the low one, and the least b with ln(b/10^6) from
--- the high one on, which comes after the greatest that is below
+-- ln(k/10^6) is surely z units or more
+abbrev pub from : ℤ → ℕ → Bool
+from z k = leZ z (lnMillionths k .low)
+
+-- the first such k after a
+unfoldable pub ceilingAfter : ℕ → ℤ → ℕ
+ceilingAfter a z = first (from z) (most - a) (suc a)
+
+-- from the ends of a logarithm: the greatest a with ln(a/10^6) up to the low one, and the first b after it with
+-- ln(b/10^6) from the high one on
 unfoldable pub millionthsFrom : SignedEnds → Millionths
-millionthsFrom e = record { low = greatest (upTo (e .low)) most; high = suc (greatest (below (e .high)) most) }
+millionthsFrom e =
+    let a : ℕ = greatest (upTo (e .low)) most in record { low = a; high = ceilingAfter a (e .high) }
 
 -- of an answer, and of a scenario
 unfoldable pub inMillionths : Answer → MillionthsAnswer

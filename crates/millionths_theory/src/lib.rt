@@ -11,3 +11,10 @@ pub enum MillionthsAnswer {
     Between(Millionths),
     Refused(u8),
 }
+
+// Of ends of logarithms: the greatest whole number of millionths whose logarithm is up to one, and the low end of the
+// next one's logarithm.
+pub struct Floor {
+    pub whole: u64,
+    pub next: i64,
+}

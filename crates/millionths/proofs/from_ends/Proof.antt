@@ -1,33 +1,44 @@
 -- `from_ends` meets its contract.
 use mathlib.Core.Path.{_≡_, refl, ap, _∙_}
-use mathlib.Core.Bool.{Bool, true, false}
-use Prim.Native.Nat.{ℕ, suc, _+_}
+use Prim.Native.Nat.{suc, _+_, _≤_}
 use native.Mathlib.Omega.{arith}
 use borrow.Author.Needs.{needs}
-use lib.IntN.{ℤ}
 use mir.Syntax.{w64}
-use mir.Val.{toZ, ofZ, SFits}
 use mir.ValLaws.{toZ-ofZ}
-use Rattle.millionths_theory.specs.Evaluation.{greatest, most, passes, millionthsFrom}
-use Rattle.millionths_theory.proofs.Laws.{from-ends}
+use Rattle.millionths_theory.specs.Evaluation.{lnMillionths, most, greatest, upTo, floorOf, ceilingAfter}
+use Rattle.millionths_theory.specs.Evaluation.{millionthsFrom}
+use Rattle.millionths_theory.proofs.Laws.{floored, ceiling-most, from-ends}
 use Rattle.millionths.proofs.from_ends.Statement.{statement}
 use Rattle.millionths.proofs.from_ends.Tie as tie
 
--- what was found for an end that was read back from its bits
-for-end : {r : ℕ} (upper : Bool) (z : ℤ) → SFits w64 z → r ≡ greatest (passes upper (toZ w64 (ofZ w64 z))) most →
-    r ≡ greatest (passes upper z) most
-for-end upper z f e = e ∙ ap (λ y. greatest (passes upper y) most) (toZ-ofZ w64 z f)
+-- what the first search found, for the low end as it was read back from its bits
+lower : (c : tie.After-floor) →
+    let a = c .floor .result in
+    (a .whole ≤ most) × (a .next ≡ lnMillionths (a .whole + 1) .low) ×
+    (a .whole ≡ greatest (upTo (c .before .before .before .before .args .e .low)) most)
+lower c =
+    let z = c .before .before .before .before .args .e .low in
+    floored z (c .floor .ensures ∙ ap floorOf (toZ-ofZ w64 z (record { sfits = c .before .struct-told2 .given .0 .1 })))
+
+-- and the second
+upper : (c : tie.After-ceiling-after) →
+    let b = c .ceiling-after .result in
+    let a = c .before .before .before in
+    (b ≤ suc most) × (b ≡ ceilingAfter (a .floor .result .whole) (a .before .before .before .before .args .e .high))
+upper c =
+    let z = c .before .before .before .before .before .before .before .args .e .high in
+    let back = toZ-ofZ w64 z (record { sfits = c .before .struct-told4 .given .1 .0 .1 }) in
+    let e = c .ceiling-after .ensures ∙ ap (ceilingAfter _) back in
+    (rw e (ceiling-most _ z (lower (c .before .before .before) .0)), e)
 
 pub from-ends-spec : {M : Type 1} → statement M
 unfolding millionthsFrom
 from-ends-spec =
     tie.close
-    (tie.spec (λ c κs. search needs) (λ c κs. search needs) (λ c κs. search needs)
-    (λ c. search needs) (λ c. search needs) (λ c. search needs)
-    (λ c.
-    let first = c .before .before in
-    let e = first .before .before .before .before .args .e in
-    let low = for-end false (e .low) (record { sfits = first .before .struct-told2 .given .0 .1 }) (first .greatest .ensures .0) in
-    let high = for-end true (e .high) (record { sfits = c .before .struct-told3 .given .1 .0 .1 }) (c .greatest2 .ensures .0) in
-    let next : c .greatest2 .result + 1 ≡ suc (c .greatest2 .result) = omega arith in
-    from-ends e (rw (next, low, high) refl)))
+    (tie.spec (λ c κs. search needs) (λ c κs. search needs)
+    (λ c κs.
+    let a = lower (c .before .before) in
+    (a .0, toZ-ofZ w64 _ (record { sfits = c .before .struct-told3 .given .1 .0 .1 }) ∙ a .1))
+    (λ c. record { fits = omega (arith, lower (c .before .before .before .before) .0) })
+    (λ c. record { fits = omega (arith, upper (c .before) .0) })
+    (λ c. from-ends _ (rw (upper (c .before) .1, lower (c .before .before .before .before) .2) refl)))

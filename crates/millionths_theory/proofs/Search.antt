@@ -1,12 +1,12 @@
--- The greatest number that passes a test.
-use mathlib.Core.Path.{_≡_}
+-- The greatest number that passes a test, a search for it, and the first one that passes.
+use mathlib.Core.Path.{_≡_, refl}
 use mathlib.Core.Bool.{Bool, true, false, not}
-use Prim.Native.Nat.{ℕ, zero, suc, _≤_, _<_}
+use Prim.Native.Nat.{ℕ, zero, suc, _+_, _≤_, _<_}
 use native.Mathlib.Decide.{decLe, decLt}
 use native.Mathlib.Omega.{arith}
 use lib.Dec.{T, T-not, not-T}
 use Rattle.toolbox_theory.proofs.Tests.{by-test}
-use Rattle.millionths_theory.specs.Evaluation.{greatest}
+use Rattle.millionths_theory.specs.Evaluation.{greatest, first}
 
 module _ (test : ℕ → Bool) where
   pub at-most : (n : ℕ) → greatest test n ≤ n
@@ -65,3 +65,51 @@ tried {test} {n} {k = k} falls s h l e = (
   λ t. omega (arith, s, passed test n k (omega (arith, s)) (rw (← e, t) tt)),
   λ t. omega (arith, s, failed test n falls k (omega arith) (rw (← e, t) tt)),
 )
+
+-- ---- the first
+
+module _ (test : ℕ → Bool) where
+  -- it is not before what it begins with
+  pub from-start : (n k : ℕ) → k ≤ first test n k
+  unfolding first
+  from-start zero k = omega arith
+  from-start (suc n) k =
+      by-test (test k) (λ f. k ≤ f) (λ _. omega arith) (λ _. omega (arith, from-start n (suc k)))
+
+  -- it comes after so many at most, and passes unless it does
+  pub soon : (n k : ℕ) → first test n k ≤ k + n
+  unfolding first
+  soon zero k = omega arith
+  soon (suc n) k = by-test (test k) (λ f. f ≤ k + suc n) (λ _. omega arith) (λ _. omega (arith, soon n (suc k)))
+
+  pub first-passes : (n k : ℕ) → first test n k < k + n → T (test (first test n k))
+  unfolding first
+  first-passes zero k h = absurd (omega arith)
+  first-passes (suc n) k h =
+      by-test (test k) (λ f. f < k + suc n → T (test f)) (λ t _. t) (λ _ l. first-passes n (suc k) (omega arith)) h
+
+  -- those before it fail
+  pub before-fails : (n k j : ℕ) → k ≤ j → j < first test n k → T (not (test j))
+  unfolding first
+  before-fails zero k j h l = absurd (omega arith)
+  before-fails (suc n) k j h l =
+      by-test (test k) (λ f. j < f → T (not (test j))) (λ _ m. absurd (omega arith))
+      (λ t m. elim (decLt k j) [
+        | yes g ↦ before-fails n (suc k) j g m
+        | no g ↦ let e : j ≡ k = omega arith in rw e t
+      ]) l
+
+  -- the first from k on, step by step: k, where it passes or none is left, else the first after it
+  pub first-here : (n k : ℕ) → not (test k) ≡ false → first test n k ≡ k
+  unfolding first
+  first-here zero k t = refl
+  first-here (suc n) k t = by-test (test k) (λ f. f ≡ k) (λ _. refl) (λ u. absurd (rw t at u))
+
+  pub first-none : (k : ℕ) → first test 0 k ≡ k
+  unfolding first
+  first-none k = refl
+
+  pub first-next : (n k : ℕ) → not (test k) ≡ true → first test (suc n) k ≡ first test n (suc k)
+  unfolding first
+  first-next n k t =
+      by-test (test k) (λ f. f ≡ first test n (suc k)) (λ u. absurd (T-not (test k) (rw t tt) u)) (λ _. refl)
