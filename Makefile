@@ -22,7 +22,8 @@ BENCH := target/bench/bench
 ALONE := flock target/tests/lock
 
 .PHONY: run test lib examples bench longer definitions outside hosts probe program need need_hosts need_bench need_test
-.PHONY: test_logarithm test_records test_models test_answers test_enclosures test_program_failures test_hosts test_kinds
+.PHONY: test_logarithm test_records test_models test_answers test_millionths test_enclosures test_program_failures
+.PHONY: test_hosts test_kinds
 .SILENT:
 
 run: program
@@ -62,7 +63,8 @@ definitions: need_test
 	cmp $(SAMPLE).stdout crates/enclosures/stdout
 
 # The tests of the program come first, as they need no library, and run while the libraries are built.
-outside: test_enclosures test_program_failures test_logarithm test_models test_records test_answers test_kinds test_hosts
+outside: test_enclosures test_program_failures test_logarithm test_models test_records test_answers test_millionths
+outside: test_kinds test_hosts
 
 test_logarithm test_models: test_%: probe
 	python3 tests/$@.py $(PROBE)
@@ -70,7 +72,7 @@ test_logarithm test_models: test_%: probe
 test_records: probe hosts
 	python3 tests/$@.py $(firstword $(ASKS)) $(PROBE)
 
-test_answers: hosts
+test_answers test_millionths: test_%: hosts
 	python3 tests/$@.py $(firstword $(ASKS))
 
 test_hosts: hosts

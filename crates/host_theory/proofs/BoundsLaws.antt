@@ -25,7 +25,9 @@ told-promised (M.Between m) p = record {
   number = p .number;
   between = λ z.
       let b = p .between z in
-      rw (ap (λ l. getD l 0 0) (b .two), ap (λ l. getD l 1 0) (b .two)) (b .bounds);
+      let low : m .low ≡ b .a = ap (λ l. getD l 0 0) (b .two) in
+      let high : m .high ≡ b .b = ap (λ l. getD l 1 0) (b .two) in
+      rw (← low, ← high) at (b .bounds);
   zeros = λ h. absurd (h (omega arith));
 }
 told-promised (M.Refused k) p =

@@ -1,5 +1,6 @@
 -- What C is told beside the plain struct of an answer: structs for the engine's scenario, doubles, millionths, rows,
--- readings and writings. An enum does not pass, so a refused one is the number with zeros, and an accepted one has the number 0.
+-- readings and writings. An enum does not pass, so a refused one is the number with zeros, and an accepted one has the
+-- number 0.
 use mathlib.Core.Bool.{cond}
 use mathlib.Core.Option.{Option, none, some}
 use Prim.Native.Nat.{ℕ}

@@ -31,8 +31,8 @@ fn ln_millionths(k: u64) -> SignedEnds
     between(0, e.high, 0, e.low)
 }
 
-// The greatest k with ln(k/10^6) up to z, and the low end of the next. The search begins at what is given, wherever that
-// is, and goes on from there: it is short where that is near.
+// The greatest k with ln(k/10^6) up to z, and the low end of the next. The search begins at what is given, wherever it
+// is, and is short where that is near.
 fn floor(z: i64, near: u64) -> Floor
     ensures { λ r. ⌜ r ≡ floorOf z ⌝ }
 {

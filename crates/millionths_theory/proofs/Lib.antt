@@ -1,3 +1,4 @@
 pub mod Search
 pub mod Order
+pub mod Conversion
 pub mod Laws

@@ -32,7 +32,8 @@ module _ (test : ℕ → Bool) where
       ])
 
   pub next-fails : (n : ℕ) → greatest test n < n → T (not (test (suc (greatest test n))))
-  next-fails n h = not-T (test (suc (greatest test n))) (λ t. absurd (omega (arith, passed n (suc (greatest test n)) h t)))
+  next-fails n h =
+      let next = suc (greatest test n) in not-T (test next) (λ t. absurd (omega (arith, passed n next h t)))
 
 -- what passes, all before it pass
 abbrev pub Falls : ℕ → (ℕ → Bool) → Type 0
@@ -59,8 +60,8 @@ pub sought : (test : ℕ → Bool) (n : ℕ) → Sought test n 0 (suc n)
 sought test n = omega (arith, at-most test n)
 
 -- what is tried between them takes the place of the one or of the other
-pub tried : {test : ℕ → Bool} {n low high k : ℕ} {b : Bool} → Falls n test → Sought test n low high → low < k → k < high →
-    b ≡ test k → (b ≡ true → Sought test n k high) × (b ≡ false → Sought test n low k)
+pub tried : {test : ℕ → Bool} {n low high k : ℕ} {b : Bool} → Falls n test → Sought test n low high → low < k →
+    k < high → b ≡ test k → (b ≡ true → Sought test n k high) × (b ≡ false → Sought test n low k)
 tried {test} {n} {k = k} falls s h l e = (
   λ t. omega (arith, s, passed test n k (omega (arith, s)) (rw (← e, t) tt)),
   λ t. omega (arith, s, failed test n falls k (omega arith) (rw (← e, t) tt)),

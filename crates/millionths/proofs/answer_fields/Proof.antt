@@ -14,5 +14,9 @@ answer-fields-spec =
     (tie.spec (λ c κs. search needs) (λ c. search needs) (λ c κs. search needs) (λ c. search needs)
     (λ c.
     let e = c .before .before in
-    answers _ (ap M.Between (c .from-ends .ensures .0) ∙ ap inMillionths (sym (e .e .given .1) ∙ e .before .before .answer-fields .ensures .0)))
-    (λ c. let k = c .before in answers _ (ap inMillionths (sym (k .k .given .1) ∙ k .before .before .answer-fields .ensures .0))))
+    let answer = sym (e .e .given .1) ∙ e .before .before .answer-fields .ensures .0 in
+    answers _ (ap M.Between (c .from-ends .ensures .0) ∙ ap inMillionths answer))
+    (λ c.
+    let k = c .before in
+    let answer = sym (k .k .given .1) ∙ k .before .before .answer-fields .ensures .0 in
+    answers _ (ap inMillionths answer)))

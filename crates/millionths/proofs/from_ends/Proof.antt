@@ -7,7 +7,7 @@ use mir.Syntax.{w64}
 use mir.ValLaws.{toZ-ofZ}
 use Rattle.millionths_theory.specs.Evaluation.{lnMillionths, most, greatest, upTo, floorOf, ceilingAfter}
 use Rattle.millionths_theory.specs.Evaluation.{millionthsFrom}
-use Rattle.millionths_theory.proofs.Laws.{floored, ceiling-most, from-ends}
+use Rattle.millionths_theory.proofs.Conversion.{floored, ceiling-most, from-ends}
 use Rattle.millionths.proofs.from_ends.Statement.{statement}
 use Rattle.millionths.proofs.from_ends.Tie as tie
 
