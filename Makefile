@@ -97,7 +97,7 @@ hosts: need_hosts lib
 	mkdir -p target/hosts/c
 	for program in ask spectrum; do \
 	    $(CC) -O2 -std=c99 $(WARN) -I$(LIB) -o target/hosts/c/$$program hosts/c/$$program.c hosts/c/ground_motion.c \
-	        $(LIB)/libfusnoch.a -lm || exit 1; \
+	        $(LIB)/libfusnoch.a || exit 1; \
 	done
 	cd hosts/rust && cargo build --quiet --offline --release --bins --examples
 

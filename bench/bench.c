@@ -245,7 +245,7 @@ typedef struct {
     void (*run)(const drawn *all, size_t answers);
 } contestant;
 
-/* The first five are ours; the table of times leaves the last one out.  The peers give logarithms, and no millionths. */
+/* The first five are ours; the table of times leaves the last one out.  The peers give logarithms alone. */
 enum { OURS = 5, PLAIN = 5, ARB_TERMS = 6, ARB_TUNED = 7, TIMED = 8, CONTESTANTS = 9 };
 static const contestant CONTESTANT[CONTESTANTS] = {
     {"fields", "ours, from fields", run_fields},

@@ -2,7 +2,8 @@
 
 Run as: python3 tests/test_hosts.py C_ASK RUST_ASK PYTHON_ASK C_SPECTRUM RUST_SPECTRUM PYTHON_SPECTRUM [COUNT] [SEED]
 
-An ASK answers the questions of test_records.py (other than place) and of test_answers.py, a line each, and
+An ASK answers the questions of test_records.py (other than place), of test_answers.py and of test_millionths.py, a line
+each, and
 
     words NUMBER            -> what the number of a refusal stands for
     rows_words MODEL PERIOD -> the period, and the row or the two rows that an answer there rests on; or the refusal
@@ -18,9 +19,10 @@ Reading gives flags of 0 and 1, and 0 beside an absent distance; with a refusal 
     answer_flags FIELDS     -> E and four ends, or R K
     read_flags BYTES        -> K FIELDS LENGTH
 
-A SPECTRUM prints the table of one earthquake by both models, each at its own of the two distances, and what the answers
-between the rows rest on.  The three of a kind have to print the same.  PYTHON_ASK stands beside the wrapper fusnoch.py.
-COUNT is how many byte strings are answered from, 10,000 unless given.
+A SPECTRUM prints the table of one earthquake by both models, each at its own of the two distances, with the median in g
+between two whole numbers of millionths, and what the answers between the rows rest on.  The three of a kind have to
+print the same.  PYTHON_ASK stands beside the wrapper fusnoch.py.  COUNT is how many byte strings are answered from,
+10,000 unless given.
 """
 
 import importlib
@@ -36,6 +38,7 @@ from typing import NamedTuple, Union
 
 import streams
 import test_answers
+import test_millionths
 import test_records
 from ask import ask, run
 from records import (BOORE_ATKINSON, IDRISS, NO_DISTANCES, OWN_DISTANCE, PERIODS, Scenario, read, record, refusal, rows,
@@ -105,14 +108,14 @@ ROWS_WORDS = (
 SPECTRUM = {model: Scenario(model, 700, 1044, 7600, 0, 0, 1000) for model in (IDRISS, BOORE_ATKINSON)}
 # Its periods: 0, those that Idriss has a row for, and 0.07 s, for which no model has one.
 SPECTRUM_PERIODS = sorted((0, *PERIODS[IDRISS], 70))
-COLUMNS = '  median low  median high g, rounded  sigma low sigma high'
+COLUMNS = '  median low  median high     g low    g high  sigma low sigma high'
 HEADING = f"""\
 Spectrum, 5 percent damped: M 7.00, strike-slip, V_S30 760.0 m/s
 Idriss 2014 at 10.44 km from the rupture, Boore and Atkinson 2008 at 10.00 km from its surface projection
 median, sigma: ends in units of 10^-9; they enclose the natural logarithm of the median in g, and sigma
-g, rounded: exp of the middle of the median's ends, to four digits, for reading; it is not enclosed
+g low, g high: the median in g lies between them; whole millionths of g, and a low of 0 sets no bound
 
-         | Idriss 2014                                                | Boore and Atkinson 2008
+         | Idriss 2014                                                         | Boore and Atkinson 2008
 period s | {COLUMNS} | {COLUMNS}
 """
 # What is printed after the table, typed in by hand: one line for each answer between the rows.
@@ -124,11 +127,17 @@ Boore and Atkinson 2008, 0.070 s: between 0.050 and 0.075
 """
 
 
+class InMillionths(NamedTuple):
+    """A scenario whose median in millionths of g is due."""
+
+    scenario: Scenario
+
+
 class Question(NamedTuple):
-    """A line for a host, and what is due: a line, or the ends of a scenario."""
+    """A line for a host, and what is due: a line, the ends of a scenario, or its median in millionths of g."""
 
     line: str
-    due: Union[str, Scenario]
+    due: Union[str, Scenario, InMillionths]
 
 
 # ---------------------------------------------------------------------------
@@ -144,9 +153,10 @@ def line_or_scenario(due):
 def about_scenarios(scenarios):
     """Yield the questions for an answer to each scenario."""
     for scenario in scenarios:
+        due = line_or_scenario(test_answers.due_for_scenario(scenario))
         for name in ('answer', 'doubles'):
-            due = line_or_scenario(test_answers.due_for_scenario(scenario))
             yield Question(test_records.text(name, *scenario), due)
+        yield Question(test_records.text('millionths', *scenario), due if isinstance(due, str) else InMillionths(due))
 
 
 def about_bytes(name, strings):
@@ -345,15 +355,20 @@ class Answers:
     def __init__(self):
         self.tally = Tally()
         self.known = {}
+        self.in_millionths = {}
 
     def fault(self, due, line):
         """Return what is wrong with a line, or None."""
         if isinstance(due, str):
             return None if line == due else f'{due} is due'
-        alone = without_other_distance(due)
-        if alone in self.known:
-            return None if line == self.known[alone] else f'{self.known[alone]} was the answer before'
-        self.known[alone] = line
+        scenario, known = (due.scenario, self.in_millionths) if isinstance(due, InMillionths) else (due, self.known)
+        alone = without_other_distance(scenario)
+        if alone in known:
+            return None if line == known[alone] else f'{known[alone]} was the answer before'
+        known[alone] = line
+        if known is self.in_millionths:
+            ends = test_millionths.read_ends(line)
+            return test_millionths.ends_fault(alone, ends) if ends else 'E and two numbers are due'
         return line_fault(self.tally, Stream('hosts', record(due)), 1, ('E', due), f'1 {line}'.encode('ascii'))
 
     def faults(self, host, asked, lines):
@@ -402,25 +417,23 @@ def check_memory(answers, asks, asked):
 # The spectra
 # ---------------------------------------------------------------------------
 
-def g_fault(text, low, high):
-    """Return what is wrong with an acceleration in g to four digits, of a median between two ends, or None."""
-    if not re.fullmatch(r'0\.0*[1-9][0-9]{3}|[1-9]\.[0-9]{3}', text):
-        return f'{text} has not four digits'
-    # Half a last digit, and a little for the host's own exp.
-    slack = Decimal('0.500001').scaleb(Decimal(text).as_tuple().exponent)
-    least, greatest = (Decimal(end).scaleb(-9).exp() for end in (low, high))
-    return None if least - slack <= Decimal(text) <= greatest + slack else f'{text} is not exp of the ends, rounded'
+def millionths_in(text):
+    """Return the millionths of an acceleration in g that is printed with six decimals; -1 if it is not printed so."""
+    number = int(text.replace('.', ''))
+    return number if text == f'{number // 10 ** 6}.{number % 10 ** 6:06}' else -1
 
 
 def cell_fault(answers, scenario, cell):
     """Return what is wrong with the part of a model in a line, or None."""
-    found = re.fullmatch(r' *(-?[0-9]+) +(-?[0-9]+) +([0-9.]+) +([0-9]+) +([0-9]+)', cell)
+    found = re.fullmatch(r' *(-?[0-9]+) +(-?[0-9]+) +([0-9.]+) +([0-9.]+) +([0-9]+) +([0-9]+)', cell)
     if not found:
-        return 'four ends and an acceleration are due'
-    low, high, g, *sigma = found.groups()
-    if cell != f'{low:>12} {high:>12} {g:>10} {sigma[0]:>10} {sigma[1]:>10}':
+        return 'four ends and two accelerations are due'
+    low, high, least, most, *sigma = found.groups()
+    if cell != f'{low:>12} {high:>12} {least:>9} {most:>9} {sigma[0]:>10} {sigma[1]:>10}':
         return 'the columns are not in their places'
-    return answers.fault(scenario, ' '.join(['E', low, high, *sigma])) or g_fault(g, int(low), int(high))
+    in_g = f'E {millionths_in(least)} {millionths_in(most)}'
+    return (answers.fault(scenario, ' '.join(['E', low, high, *sigma]))
+            or answers.fault(InMillionths(scenario), in_g))
 
 
 def spectrum_faults(answers, text):
@@ -436,8 +449,8 @@ def spectrum_faults(answers, text):
         yield f'{len(SPECTRUM_PERIODS)} lines are due, not {len(lines)}, and {after!r} after them'
     for period, line in zip(SPECTRUM_PERIODS, lines):
         name = seconds(period)
-        # 8 columns for the period and 58 for the first model.
-        cells = {IDRISS: line[11:69], BOORE_ATKINSON: line[72:]}
+        # 8 columns for the period and 67 for the first model.
+        cells = {IDRISS: line[11:78], BOORE_ATKINSON: line[81:]}
         if line != f'{name:>8} | {cells[IDRISS]} | {cells[BOORE_ATKINSON]}':
             yield f'the line of {name} is due: {line}'
         for model, cell in cells.items():
@@ -590,7 +603,7 @@ def python_calls(fusnoch):
             yield 'TypeError', function, wrong
     for wrong in (bytes(20), memoryview(bytes(20)), 20, [0] * 20, None):
         yield 'TypeError', fusnoch.write, scenario, wrong
-    for function in (fusnoch.refusal, fusnoch.answer, fusnoch.answer_in_doubles, fusnoch.record):
+    for function in (fusnoch.refusal, fusnoch.answer, fusnoch.answer_in_doubles, fusnoch.millionths, fusnoch.record):
         yield 'TypeError', function, tuple(whole)
     for kind in (bytes, bytearray, memoryview):
         yield (scenario, b'rest'), fusnoch.read, kind(record(whole) + b'rest')
@@ -610,7 +623,7 @@ def numbers_in(structure):
 
 
 def zeros_faults(fusnoch):
-    """Yield what the library's own reading, writing and rows hand back with a refusal besides its number."""
+    """Yield what the library's own functions with a struct hand back with a refusal besides its number."""
     library = fusnoch.LIBRARY
     writing = library.fusnoch_write(fusnoch.c_scenario(in_python(fusnoch, WHOLE[IDRISS])), None, 0)
     if (writing.number, writing.length) != (12, 0):
@@ -620,6 +633,11 @@ def zeros_faults(fusnoch):
         others = [reading.length, *numbers_in(reading.scenario)]
         if reading.number != number or any(others):
             yield f'fusnoch_read: {data.hex()}: {reading.number}, {others}: {number} and zeros are due'
+    for model, wrong in streams.WRONG.items():
+        scenario = WHOLE[model]._replace(**wrong)
+        found = library.fusnoch_millionths(fusnoch.c_scenario(in_python(fusnoch, scenario)))
+        if (found.number, found.low, found.high) != (refusal(scenario), 0, 0):
+            yield f'fusnoch_millionths: {scenario}: {found.number}, {found.low}, {found.high}: zeros are due'
     for model, period, number in ((0, 75, 1), (255, 9, 1), (1, 9, 6), (2, 10001, 6)):
         found = library.fusnoch_rows(model, period)
         others = [getattr(found, name) for name, *_ in found._fields_ if name != 'number']
@@ -640,9 +658,24 @@ def page_full_fault(fusnoch):
     return 'page full is not refused as it should be'
 
 
+def millionths_faults(fusnoch):
+    """Yield what is wrong with the millionths that Python's wrapper gives: a named tuple, or a refusal."""
+    for scenario in (*WHOLE.values(), *(WHOLE[model]._replace(**wrong) for model, wrong in streams.WRONG.items())):
+        number = refusal(scenario)
+        try:
+            given = fusnoch.millionths(in_python(fusnoch, scenario))
+        except fusnoch.Refused as refused:
+            if (refused.number, refused.words) != (number, WORDS[number - 1]):
+                yield f'millionths({scenario}): {refused}, refusal {number} is due'
+            continue
+        if number or type(given).__name__ != 'Millionths' or tuple(given) != (given.low, given.high):
+            yield f'millionths({scenario}): {given!r}'
+
+
 def python_faults(fusnoch):
     """Yield the faults of Python's wrapper where no types see to the caller's mistakes."""
     yield from zeros_faults(fusnoch)
+    yield from millionths_faults(fusnoch)
     yield from rows_faults(fusnoch)
     yield from distances_faults(fusnoch)
     for due, function, *given in python_calls(fusnoch):

@@ -1,6 +1,6 @@
 /* Ground motion with proved ends, for programs in C: the safe way to the functions of fusnoch.h that take a pointer,
    and the words of the refusals and of the rows that a median rests on.  fusnoch_refusal, fusnoch_answer_fields,
-   fusnoch_answer_fields_in_doubles and fusnoch_rows take no pointer and are called as they are.
+   fusnoch_answer_fields_in_doubles, fusnoch_millionths and fusnoch_rows take no pointer and are called as they are.
 
    The number of a result is 0, or that of the refusal; a refused result has zeros for all else.  A null pointer counts
    as no bytes, whatever the length.

@@ -2,7 +2,6 @@
    3 km down, at a site 10 km beside it, so that the rupture is 10.44 km away.  Below the table stand the answers that
    have no row of their own. */
 #include <inttypes.h>
-#include <math.h>
 #include <stdio.h>
 
 #include "ground_motion.h"
@@ -15,7 +14,7 @@ static const ground_motion_projection_distance PROJECTION = {.hundredths = 1000}
 static const uint16_t PERIODS[] = {0,   10,  20,  30,  40,   50,   70,   75,   100,  150,  200,  250,
                                    300, 400, 500, 750, 1000, 1500, 2000, 3000, 4000, 5000, 7500, 10000};
 
-enum { CELL = 58, LONGEST = 128, LINES = sizeof PERIODS / sizeof *PERIODS };
+enum { CELL = 67, LONGEST = 128, MILLION = 1000000, LINES = sizeof PERIODS / sizeof *PERIODS };
 
 /* The earthquake at the site, with both distances: each model reads its own. */
 static fusnoch_scenario earthquake(uint8_t model, uint16_t period)
@@ -28,18 +27,20 @@ static fusnoch_scenario earthquake(uint8_t model, uint16_t period)
     return s;
 }
 
-/* The part of one model in a line: ends, or the refusal. */
+/* The part of one model in a line: ends and the median in g, or the refusal. */
 static void fill(char cell[LONGEST], uint8_t model, uint16_t period)
 {
     fusnoch_scenario s = earthquake(model, period);
     fusnoch_answer a = fusnoch_answer_fields(s);
-    fusnoch_doubles d = fusnoch_answer_fields_in_doubles(s);
+    fusnoch_bounds g = fusnoch_millionths(s);
 
     if (a.number != 0)
         snprintf(cell, LONGEST, "refusal %u, %s", a.number, ground_motion_words(a.number));
     else
-        snprintf(cell, LONGEST, "%12" PRId64 " %12" PRId64 " %#10.4g %10" PRId64 " %10" PRId64, a.median_low,
-                 a.median_high, exp((d.median_low + d.median_high) / 2e9), a.sigma_low, a.sigma_high);
+        snprintf(cell, LONGEST,
+                 "%12" PRId64 " %12" PRId64 " %2" PRIu32 ".%06" PRIu32 " %2" PRIu32 ".%06" PRIu32 " %10" PRId64
+                 " %10" PRId64, a.median_low, a.median_high, g.low / MILLION, g.low % MILLION, g.high / MILLION,
+                 g.high % MILLION, a.sigma_low, a.sigma_high);
 }
 
 static void print_heading(void)
@@ -53,10 +54,10 @@ static void print_heading(void)
            "projection\n", s.rupture_distance / 100, s.rupture_distance % 100, s.projection_distance / 100,
            s.projection_distance % 100);
     puts("median, sigma: ends in units of 10^-9; they enclose the natural logarithm of the median in g, and sigma");
-    puts("g, rounded: exp of the middle of the median's ends, to four digits, for reading; it is not enclosed\n");
+    puts("g low, g high: the median in g lies between them; whole millionths of g, and a low of 0 sets no bound\n");
     printf("%8s | %-*s | %s\n", "", CELL, "Idriss 2014", "Boore and Atkinson 2008");
-    snprintf(columns, LONGEST, "%12s %12s %10s %10s %10s", "median low", "median high", "g, rounded", "sigma low",
-             "sigma high");
+    snprintf(columns, LONGEST, "%12s %12s %9s %9s %10s %10s", "median low", "median high", "g low", "g high",
+             "sigma low", "sigma high");
     printf("%8s | %s | %s\n", "period s", columns, columns);
 }
 

@@ -5,7 +5,6 @@ It is a vertical strike-slip fault whose rupture begins 3 km down, at a site 10 
 10.44 km away.  Below the table stand the answers that have no row of their own.
 """
 
-import math
 from dataclasses import replace
 
 import fusnoch
@@ -27,28 +26,33 @@ def hundredths(number):
     return f'{number // 100}.{number % 100:02}'
 
 
+def decimal(millionths):
+    """Return a number of millionths as a decimal."""
+    return f'{millionths // 1000000}.{millionths % 1000000:06}'
+
+
 def cell(scenario):
-    """Return the part of one model in a line: ends, or the refusal."""
+    """Return the part of one model in a line: ends and the median in g, or the refusal."""
     try:
-        ends, doubles = fusnoch.answer(scenario), fusnoch.answer_in_doubles(scenario)
+        ends, g = fusnoch.answer(scenario), fusnoch.millionths(scenario)
     except Refused as refused:
         return str(refused)
-    g = math.exp((doubles.median_low + doubles.median_high) / 2e9)
-    return f'{ends.median_low:12} {ends.median_high:12} {g:#10.4g} {ends.sigma_low:10} {ends.sigma_high:10}'
+    return (f'{ends.median_low:12} {ends.median_high:12} {decimal(g.low):>9} {decimal(g.high):>9} '
+            f'{ends.sigma_low:10} {ends.sigma_high:10}')
 
 
 def heading():
     """Return the lines above the table."""
-    columns = ' '.join(['  median low', ' median high', 'g, rounded', ' sigma low', 'sigma high'])
+    columns = ' '.join(['  median low', ' median high', '    g low', '   g high', ' sigma low', 'sigma high'])
     return f'''\
 Spectrum, 5 percent damped: M {hundredths(EARTHQUAKE.magnitude)}, strike-slip, V_S30 \
 {EARTHQUAKE.velocity // 10}.{EARTHQUAKE.velocity % 10} m/s
 Idriss 2014 at {hundredths(EARTHQUAKE.rupture_distance)} km from the rupture, Boore and Atkinson 2008 at \
 {hundredths(EARTHQUAKE.projection_distance)} km from its surface projection
 median, sigma: ends in units of 10^-9; they enclose the natural logarithm of the median in g, and sigma
-g, rounded: exp of the middle of the median's ends, to four digits, for reading; it is not enclosed
+g low, g high: the median in g lies between them; whole millionths of g, and a low of 0 sets no bound
 
-{"":8} | {"Idriss 2014":58} | Boore and Atkinson 2008
+{"":8} | {"Idriss 2014":67} | Boore and Atkinson 2008
 period s | {columns} | {columns}'''
 
 
@@ -67,7 +71,7 @@ def main():
     for period in PERIODS:
         name = f'{period // 1000}.{period % 1000:03}' if period else 'PGA'
         idriss, boore_atkinson = (cell(replace(EARTHQUAKE, model=model, period=period)) for model in MODELS)
-        print(f'{name:>8} | {idriss:58} | {boore_atkinson}')
+        print(f'{name:>8} | {idriss:67} | {boore_atkinson}')
     print('\nBetween rows: answered from the two rows named, by the logarithm of the period')
     for period in PERIODS:
         for model, title in MODELS.items():

@@ -1,5 +1,5 @@
--- From the ends of a logarithm to two whole numbers of millionths: what is promised of these (`FromEnds`) follows from the
--- ends alone.
+-- From the ends of a logarithm to two whole numbers of millionths: what is promised of these (`FromEnds`) follows from
+-- the ends alone.
 use mathlib.Core.Path.{_≡_, refl}
 use Prim.Native.Nat.{ℕ, suc, _+_, _*_, _-_, _≤_, _<_}
 use native.Mathlib.Decide.{decLe}
@@ -23,7 +23,7 @@ use Rattle.engine_theory.specs.Ranges.{medianMost}
 use Rattle.millionths_theory.specs.declared.Millionths.{Millionths}
 use Rattle.millionths_theory.specs.declared.Floor.{Floor}
 use Rattle.millionths_theory.specs.Promise.{MeetsMillionths, Gap, MillionthsEnds, widest, Convertible, FromEnds}
-use Rattle.millionths_theory.specs.Evaluation.{lnMillionths, most, greatest, upTo, floorOf, from, ceilingAfter}
+use Rattle.millionths_theory.specs.Evaluation.{lnMillionths, most, greatest, upTo, floorOf, atLeast, ceilingAfter}
 use Rattle.millionths_theory.specs.Evaluation.{millionthsFrom}
 use Rattle.millionths_theory.proofs.Search.{at-most, passes, next-fails, from-start, soon, first-passes}
 use Rattle.millionths_theory.proofs.Search.{before-fails}
@@ -51,7 +51,7 @@ floored z e =
 
 pub ceiling-most : (a : ℕ) (z : ℤ) → a ≤ most → ceilingAfter a z ≤ suc most
 unfolding ceilingAfter
-ceiling-most a z h = omega (arith, soon (from z) (most - a) (suc a))
+ceiling-most a z h = omega (arith, soon (atLeast z) (most - a) (suc a))
 
 -- ---- what is promised of the two numbers from ends that enclose f
 
@@ -67,7 +67,7 @@ module _ {f : Formula} (e : SignedEnds) (c : Convertible f e) where
 
   b-after : a < b
   unfolding ceilingAfter
-  b-after = from-start (from (e .high)) (most - a) (suc a)
+  b-after = from-start (atLeast (e .high)) (most - a) (suc a)
 
   b-most : b ≤ suc most
   b-most = ceiling-most a (e .high) a-most
@@ -80,7 +80,7 @@ module _ {f : Formula} (e : SignedEnds) (c : Convertible f e) where
   b-holds : T (leZ (e .high) (lnMillionths b .low))
   unfolding up down ceilingAfter
   b-holds = elim (decLe b most) [
-    | yes h ↦ first-passes (from (e .high)) (most - a) (suc a) (omega (arith, a-most))
+    | yes h ↦ first-passes (atLeast (e .high)) (most - a) (suc a) (omega (arith, a-most))
     | no h ↦
         let all : b ≡ suc most = omega (arith, b-most) in
         rw (all, last) (le-in (e .high) _ (omega (arith, le-out (e .high) (pos medianMost) (c .few .le))))
@@ -93,7 +93,7 @@ module _ {f : Formula} (e : SignedEnds) (c : Convertible f e) where
     | yes h ↦ omega arith
     | no h ↦
         let after = next-fails (upTo (e .low)) most (omega (arith, b-most)) in
-        let before = before-fails (from (e .high)) (most - a) (suc a) (b - 1) (omega arith) (omega arith) in
+        let before = before-fails (atLeast (e .high)) (most - a) (suc a) (b - 1) (omega arith) (omega arith) in
         elim (decLe ((widest + 3 * lnWidth) * (b - 1)) ((b - 1 - suc a) * unit)) [
           | yes wide ↦
               absurd (omega (

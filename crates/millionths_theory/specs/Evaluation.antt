@@ -51,12 +51,12 @@ first test zero k = k
 first test (suc n) k = cond (test k) k (first test n (suc k))
 
 -- ln(k/10^6) is surely z units or more
-abbrev pub from : ℤ → ℕ → Bool
-from z k = leZ z (lnMillionths k .low)
+abbrev pub atLeast : ℤ → ℕ → Bool
+atLeast z k = leZ z (lnMillionths k .low)
 
 -- the first such k after a
 unfoldable pub ceilingAfter : ℕ → ℤ → ℕ
-ceilingAfter a z = first (from z) (most - a) (suc a)
+ceilingAfter a z = first (atLeast z) (most - a) (suc a)
 
 -- from the ends of a logarithm: the greatest a with ln(a/10^6) up to the low one, and the first b after it with
 -- ln(b/10^6) from the high one on

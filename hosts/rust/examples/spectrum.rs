@@ -16,23 +16,23 @@ const PERIODS: [u16; 24] = [
 
 const MODELS: [(u8, &str); 2] = [(IDRISS, "Idriss 2014"), (BOORE_ATKINSON, "Boore and Atkinson 2008")];
 
-/// A positive number to four digits.
-fn four_digits(number: f64) -> String {
-    let scientific = format!("{:.3e}", number);
-    let exponent: i32 = scientific[scientific.find('e').unwrap() + 1..].parse().unwrap();
-    format!("{:.*}", (3 - exponent).max(0) as usize, number)
+/// A number of millionths as a decimal.
+fn decimal(millionths: u32) -> String {
+    format!("{}.{:06}", millionths / 1_000_000, millionths % 1_000_000)
 }
 
-/// The part of one model in a line: ends, or the refusal.
+/// The part of one model in a line: ends and the median in g, or the refusal.
 fn cell(scenario: &Scenario) -> String {
-    match (fusnoch::answer(scenario), fusnoch::answer_in_doubles(scenario)) {
-        (Ok(ends), Ok(doubles)) => {
-            let g = four_digits(((doubles.median_low + doubles.median_high) / 2e9).exp());
-            format!(
-                "{:12} {:12} {:>10} {:10} {:10}",
-                ends.median_low, ends.median_high, g, ends.sigma_low, ends.sigma_high
-            )
-        }
+    match (fusnoch::answer(scenario), fusnoch::millionths(scenario)) {
+        (Ok(ends), Ok(g)) => format!(
+            "{:12} {:12} {:>9} {:>9} {:10} {:10}",
+            ends.median_low,
+            ends.median_high,
+            decimal(g.low),
+            decimal(g.high),
+            ends.sigma_low,
+            ends.sigma_high
+        ),
         (Err(refusal), _) | (_, Err(refusal)) => format!("refusal {}, {}", refusal.0, refusal),
     }
 }
@@ -51,11 +51,11 @@ fn print_heading(scenario: &Scenario) {
         hundredths(PROJECTION.0)
     );
     println!("median, sigma: ends in units of 10^-9; they enclose the natural logarithm of the median in g, and sigma");
-    println!("g, rounded: exp of the middle of the median's ends, to four digits, for reading; it is not enclosed\n");
-    println!("{:8} | {:58} | Boore and Atkinson 2008", "", "Idriss 2014");
+    println!("g low, g high: the median in g lies between them; whole millionths of g, and a low of 0 sets no bound\n");
+    println!("{:8} | {:67} | Boore and Atkinson 2008", "", "Idriss 2014");
     let columns = format!(
-        "{:>12} {:>12} {:>10} {:>10} {:>10}",
-        "median low", "median high", "g, rounded", "sigma low", "sigma high"
+        "{:>12} {:>12} {:>9} {:>9} {:>10} {:>10}",
+        "median low", "median high", "g low", "g high", "sigma low", "sigma high"
     );
     println!("{:>8} | {} | {}", "period s", columns, columns);
 }
@@ -90,7 +90,7 @@ fn main() {
             _ => format!("{}.{:03}", period / 1000, period % 1000),
         };
         let cells = MODELS.map(|(model, _)| cell(&Scenario { model, period, ..scenario }));
-        println!("{:>8} | {:58} | {}", name, cells[0], cells[1]);
+        println!("{:>8} | {:67} | {}", name, cells[0], cells[1]);
     }
     print_between();
 }

@@ -12,8 +12,8 @@ use Rattle.millionths_theory.specs.Evaluation.{lnMillionths, most, greatest, up
 use Rattle.millionths_theory.proofs.Search.{Sought, sought, tried}
 use Rattle.millionths_theory.proofs.Order.{upTo-falls}
 use Rattle.millionths_theory.proofs.Conversion.{last}
-use Rattle.millionths.proofs.floor.Statement.{statement}
-use Rattle.millionths.proofs.floor.Tie as tie
+use Rattle.antilogarithm.proofs.floor.Statement.{statement}
+use Rattle.antilogarithm.proofs.floor.Tie as tie
 
 abbrev Inv-loop : tie.InvT-loop
 Inv-loop z near low₀ high₀ next₀ low high next =

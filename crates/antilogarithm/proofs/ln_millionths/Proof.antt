@@ -9,8 +9,8 @@ use Rattle.logarithm_theory.specs.Promise.{LnDomain}
 use Rattle.logarithm_theory.specs.Evaluation.{lnOf}
 use Rattle.logarithm_theory.proofs.Laws.{lnOf-rounded}
 use Rattle.millionths_theory.specs.Evaluation.{lnMillionths}
-use Rattle.millionths.proofs.ln_millionths.Statement.{statement}
-use Rattle.millionths.proofs.ln_millionths.Tie as tie
+use Rattle.antilogarithm.proofs.ln_millionths.Statement.{statement}
+use Rattle.antilogarithm.proofs.ln_millionths.Tie as tie
 
 -- both ends of a logarithm are small
 small : {a b : ℕ} {e : Ends} → LnDomain a b → e ≡ lnOf a b → (e .low < 2 ^ 63) × (e .high < 2 ^ 63)

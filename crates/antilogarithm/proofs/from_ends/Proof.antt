@@ -8,8 +8,8 @@ use mir.ValLaws.{toZ-ofZ}
 use Rattle.millionths_theory.specs.Evaluation.{lnMillionths, most, greatest, upTo, floorOf, ceilingAfter}
 use Rattle.millionths_theory.specs.Evaluation.{millionthsFrom}
 use Rattle.millionths_theory.proofs.Conversion.{floored, ceiling-most, from-ends}
-use Rattle.millionths.proofs.from_ends.Statement.{statement}
-use Rattle.millionths.proofs.from_ends.Tie as tie
+use Rattle.antilogarithm.proofs.from_ends.Statement.{statement}
+use Rattle.antilogarithm.proofs.from_ends.Tie as tie
 
 -- what the first search found, for the low end as it was read back from its bits
 lower : (c : tie.After-floor) →

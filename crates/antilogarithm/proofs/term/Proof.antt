@@ -2,8 +2,8 @@
 use Prim.Native.Nat.{ℕ, _*_, _^_, _≤_, _<_}
 use native.Mathlib.Nat.{mul-le-mul, le-refl, le-of-lt}
 use native.Mathlib.Omega.{arith}
-use Rattle.millionths.proofs.term.Statement.{statement}
-use Rattle.millionths.proofs.term.Tie as tie
+use Rattle.antilogarithm.proofs.term.Statement.{statement}
+use Rattle.antilogarithm.proofs.term.Tie as tie
 
 -- r f is at most r
 product : (r f : ℕ) → f < 2 ^ 32 → r * f ≤ r * 2 ^ 32

@@ -6,15 +6,15 @@ use native.Mathlib.Omega.{arith}
 use mir.Syntax.{w64}
 use mir.Val.{toZ, ofZ, SFits}
 use mir.ValLaws.{toZ-ofZ}
-use Rattle.millionths_theory.specs.Evaluation.{lnMillionths, most, first, from, ceilingAfter}
+use Rattle.millionths_theory.specs.Evaluation.{lnMillionths, most, first, atLeast, ceilingAfter}
 use Rattle.millionths_theory.proofs.Search.{first-here, first-none, first-next}
-use Rattle.millionths.proofs.ceiling_after.Statement.{statement}
-use Rattle.millionths.proofs.ceiling_after.Tie as tie
+use Rattle.antilogarithm.proofs.ceiling_after.Statement.{statement}
+use Rattle.antilogarithm.proofs.ceiling_after.Tie as tie
 
 abbrev Inv-loop : tie.InvT-loop
 Inv-loop a next z k₀ low₀ k low =
     (k ≤ suc most) × (toZ w64 low ≡ lnMillionths k .low) ×
-    (first (from (toZ w64 z)) (suc most - k) k ≡ ceilingAfter a (toZ w64 z))
+    (first (atLeast (toZ w64 z)) (suc most - k) k ≡ ceilingAfter a (toZ w64 z))
 
 abbrev μ-loop : tie.MeasureT-loop
 μ-loop a next z k₀ low₀ k low = suc most - k
@@ -40,7 +40,7 @@ goes-on c =
     let next : l .k + 1 ≡ suc (l .k) = omega arith in (
       omega (arith, i .loop-test .taken),
       toZ-ofZ w64 _ fits ∙ ap (λ e. e .low) (ln .ln-millionths .ensures),
-      rw next (sym (first-next (from z) _ _ fails) ∙ rw (← left) (l .inv .2)),
+      rw next (sym (first-next (atLeast z) _ _ fails) ∙ rw (← left) (l .inv .2)),
     )
 
 -- k passes
@@ -49,7 +49,7 @@ passes c =
     let s = c .before .before .before in
     let l = c .before .before .loop in
     let z = toZ w64 (ofZ w64 (s .args .z)) in
-    let here = first-here (from z) (suc most - l .k) (l .k) (rw (l .inv .1) at (c .if1 .left)) in
+    let here = first-here (atLeast z) (suc most - l .k) (l .k) (rw (l .inv .1) at (c .if1 .left)) in
     rw (toZ-ofZ w64 (s .args .z) (s .fits .z)) at (sym here ∙ l .inv .2)
 
 -- none is left after k
