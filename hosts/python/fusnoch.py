@@ -264,7 +264,7 @@ def answer_record_in_doubles(data):
 def millionths(scenario):
     """Return the median of a scenario in millionths of g.
 
-    The exact one lies from low to high, and high less low is at most 2 and high/100,000, rounded down.
+    The exact one lies from low to high, and high less low is at most 2 plus high/100000 rounded down.
     """
     bounds = LIBRARY.fusnoch_millionths(c_scenario(scenario))
     _unless_refused(bounds.number)

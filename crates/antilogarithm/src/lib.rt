@@ -25,16 +25,16 @@ fn ln_millionths(k: u64) -> SignedEnds
     between(0, e.high, 0, e.low)
 }
 
-// The greatest k with ln(k/10^6) up to z, and the low end of the next. The search begins at what is given, wherever it
-// is, and is short where that is near.
-fn floor(z: i64, near: u64) -> Floor
+// The greatest k with ln(k/10^6) up to z, and the low end of the next. The search goes number by number from the start,
+// wherever that is.
+fn floor(z: i64, start: u64) -> Floor
     ensures { λ r. ⌜ r ≡ floorOf z ⌝ }
 {
     let mut low = 0;
     let mut high = 8_388_608;
     let mut next = 2_126_874_594;
     while 1 < high - low {
-        let k = min(max(near, low + 1), high - 1);
+        let k = min(max(start, low + 1), high - 1);
         let e = ln_millionths(k);
         if e.high <= z {
             low = k;
@@ -92,13 +92,14 @@ fn shifted(z: i64) -> u64
     13_815_510_558 + min(size, 2_126_000_000)
 }
 
-// 10^6 e^z, for z in units of 10^-9, nearly: a good start for the search, which any number is.
+// 10^6 e^z, for z in units of 10^-9, nearly: where the search starts. Nothing but its time rests on it.
 fn near(z: i64) -> u64 {
     let octaves = shifted(z) * 831_657_069 / 134_217_728;
     power_of_two(octaves % 4_294_967_296) >> (31 - octaves / 4_294_967_296)
 }
 
-// Two whole numbers of millionths between which everything lies that the ends enclose.
+// Two whole numbers of millionths, of any ends of a logarithm: what these enclose lies between the numbers if they are
+// at most 4,000 units apart and not above 2.1.
 pub fn from_ends(e: SignedEnds) -> Millionths
     ensures { λ r. ⌜ r ≡ millionthsFrom e ⌝ }
     ensures { λ r. ⌜ FromEnds e r ⌝ }

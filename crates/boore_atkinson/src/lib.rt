@@ -10,13 +10,13 @@ ghost use Rattle.boore_atkinson_theory.specs.Evaluation.{vs30LnOf, curveFor, me
 use boore_atkinson_rock as rock;
 use boore_atkinson_site as site;
 use boore_atkinson_tables as table;
-use interpolation::no_pair;
 use interpolation_theory::TwoRows;
 use interval::ends;
 use interval::plus;
 use interval_theory::Ends;
 use interval_theory::SignedEnds;
 use interval_theory::SignedPair;
+use period_step::no_pair;
 use scenario_theory::ProjectionDistance;
 
 // What the nonlinear part has over the slope, which all rows have in common: from 760 m/s on the slope is 0, p has no

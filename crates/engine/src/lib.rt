@@ -64,7 +64,7 @@ fn between_idriss(
     requires { ⌜ rows ≡ idrissRowsOf magnitude (distance .0) velocity mechanism k (k + 1) ⌝ }
     ensures { λ r. ⌜ r ≡ idrissEnclosureOf magnitude (distance .0) velocity mechanism period ⌝ }
 {
-    let step = interpolation::step(idriss_neighbours(k), period);
+    let step = period_step::step(idriss_neighbours(k), period);
     Enclosure {
         median: interpolated(rows.lower, rows.upper, step.part, step.whole),
         sigma: idriss_sigma::sigma_between(period, magnitude),
@@ -140,7 +140,7 @@ fn between_boore_atkinson(
     requires { ⌜ rows ≡ booreAtkinsonRowsOf magnitude (distance .0) velocity mechanism k (k + 1) ⌝ }
     ensures { λ r. ⌜ r ≡ booreAtkinsonEnclosureOf magnitude (distance .0) velocity mechanism period ⌝ }
 {
-    let step = interpolation::step(boore_atkinson_neighbours(k), period);
+    let step = period_step::step(boore_atkinson_neighbours(k), period);
     let sigmas = boore_atkinson_sigma::sigma_rows(k, mechanism);
     Enclosure {
         median: interpolated(rows.lower, rows.upper, step.part, step.whole),

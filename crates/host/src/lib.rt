@@ -117,7 +117,7 @@ pub extern "C" fn fusnoch_answer_record_in_doubles(bytes: &[u8]) -> HostDoubles
 }
 
 // Answers a scenario of any fields with its median in millionths of g: the exact median lies from low to high, and high
-// less low is at most 2 and high/100,000, rounded down. It is turned away as fusnoch_answer_fields turns it away.
+// less low is at most 2 plus high/100000 rounded down. It is turned away as fusnoch_answer_fields turns it away.
 #[no_mangle]
 pub extern "C" fn fusnoch_millionths(s: HostScenario) -> HostBounds
     ensures { λ r. ⌜ r ≡ toldBounds (millionthsOf (scenarioFrom s)) ⌝ }

@@ -19,9 +19,9 @@ use Rattle.host_theory.specs.Promise.{HostBoundsPromise}
 none-bound : {s : Scenario} → BoundsMedian s [] → ⊥
 none-bound h = absurd (omega (arith, ap length (h .two)))
 
-told-promised : {k : ℕ} {s : Scenario} (r : MillionthsAnswer) → MillionthsPromise k s r →
+bounds-promised : {k : ℕ} {s : Scenario} (r : MillionthsAnswer) → MillionthsPromise k s r →
     HostBoundsPromise k s (toldBounds r)
-told-promised (M.Between m) p = record {
+bounds-promised (M.Between m) p = record {
   number = p .number;
   between = λ z.
       let b = p .between z in
@@ -30,10 +30,10 @@ told-promised (M.Between m) p = record {
       rw (← low, ← high) at (b .bounds);
   zeros = λ h. absurd (h (omega arith));
 }
-told-promised (M.Refused k) p =
+bounds-promised (M.Refused k) p =
     record { number = p .number; between = λ z. absurd (none-bound (p .between z)); zeros = λ _. (refl, refl) }
 
 -- every struct of which a contract says `r ≡ ..` keeps it
 pub bounds-told : {r : HostBounds} (s : Scenario) → r ≡ toldBounds (millionthsOf s) →
     (r ≡ toldBounds (millionthsOf s)) × HostBoundsPromise (refusalOf s) s r
-bounds-told s e = (e, rw e (told-promised (millionthsOf s) (answers s refl .1)))
+bounds-told s e = (e, rw e (bounds-promised (millionthsOf s) (answers s refl .1)))

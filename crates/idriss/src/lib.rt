@@ -14,11 +14,11 @@ ghost use Rattle.idriss_theory.specs.Evaluation.{distanceTermOf, siteTermOf, me
 ghost use Rattle.idriss_theory.specs.Sizes.{alphaMost, exactMost, distanceTermMost, siteTermMost};
 use idriss_tables as table;
 use idriss_theory::Row;
-use interpolation::no_pair;
 use interpolation_theory::TwoRows;
 use interval_theory::Ends;
 use interval_theory::SignedEnds;
 use interval_theory::SignedPair;
+use period_step::no_pair;
 use scenario_theory::RuptureDistance;
 
 // a1 + a2 M + a3 (8.5 − M)², where none of the three is below zero.

@@ -46,7 +46,7 @@ in-ends a h = lies-ends h
 -- ---- the hull of two pairs of ends
 
 -- a unit more is not less
-units-rise : (y z : ℤ) → up y + down z ≤ up z + down y → units y ≤q units z
+pub units-rise : (y z : ℤ) → up y + down z ≤ up z + down y → units y ≤q units z
 unfolding units
 units-rise y z h = le-of (over-Is y unit (omega arith)) (over-Is z unit (omega arith)) (omega arith)
 

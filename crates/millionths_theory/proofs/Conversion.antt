@@ -10,12 +10,12 @@ use lib.IntN.{ℤ, pos, _+ℤ_}
 use lib.Signed.{leZ}
 use Rattle.toolbox_theory.specs.Whole.{up, down}
 use Rattle.toolbox_theory.proofs.Whole.{le-in, le-out, gt-out, add-is}
-use Rattle.exact_theory.specs.Fraction.{_≤q_}
-use Rattle.exact_theory.specs.Formula.{Formula, eval, units, ends}
-use Rattle.exact_theory.proofs.FractionLaws.{le-of, over-Is, ≤q-trans}
+use Rattle.exact_theory.specs.Formula.{Formula, eval, ends}
+use Rattle.exact_theory.proofs.FractionLaws.{≤q-trans}
 use Rattle.interval_theory.specs.declared.SignedEnds.{SignedEnds}
 use Rattle.interval_theory.specs.Natural.{unit}
 use Rattle.interval_theory.specs.Signed.{betweenOf}
+use Rattle.interval_theory.proofs.SignedValues.{units-rise}
 use Rattle.logarithm_tables_theory.specs.Tables.{coarseAt, fineAt}
 use Rattle.logarithm_theory.specs.Promise.{lnWidth}
 use Rattle.logarithm_theory.specs.Evaluation.{scaledOf, nearOneOf, mantissaLnOf, scaledLnOf, lnOf}
@@ -23,16 +23,11 @@ use Rattle.engine_theory.specs.Ranges.{medianMost}
 use Rattle.millionths_theory.specs.declared.Millionths.{Millionths}
 use Rattle.millionths_theory.specs.declared.Floor.{Floor}
 use Rattle.millionths_theory.specs.Promise.{MeetsMillionths, Gap, MillionthsEnds, widest, Convertible, FromEnds}
-use Rattle.millionths_theory.specs.Evaluation.{lnMillionths, most, greatest, upTo, floorOf, atLeast, ceilingAfter}
-use Rattle.millionths_theory.specs.Evaluation.{millionthsFrom}
+use Rattle.millionths_theory.specs.Evaluation.{lnMillionths, most, greatestPassing, upTo, floorOf, atLeast}
+use Rattle.millionths_theory.specs.Evaluation.{ceilingAfter, millionthsFrom}
 use Rattle.millionths_theory.proofs.Search.{at-most, passes, next-fails, from-start, soon, first-passes}
 use Rattle.millionths_theory.proofs.Search.{before-fails}
 use Rattle.millionths_theory.proofs.Order.{ln-encloses, apart}
-
--- units are in order as their numbers are
-units-order : (y z : ℤ) → T (leZ y z) → units y ≤q units z
-unfolding units
-units-order y z t = le-of (over-Is y unit (omega arith)) (over-Is z unit (omega arith)) (omega (arith, le-out y z t))
 
 -- ln((most + 1)/10^6), which no median is above
 pub last : lnMillionths (suc most) .low ≡ pos 2_126_874_594
@@ -42,12 +37,12 @@ last = refl
 -- ---- the two searches
 
 pub floored : {r : Floor} (z : ℤ) → r ≡ floorOf z →
-    (r .whole ≤ most) × (r .next ≡ lnMillionths (r .whole + 1) .low) × (r .whole ≡ greatest (upTo z) most)
+    (r .whole ≤ most) × (r .next ≡ lnMillionths (r .whole + 1) .low)
 unfolding floorOf
 floored z e =
-    let a = greatest (upTo z) most in
-    let one : a + 1 ≡ suc a = omega arith in
-    rw e (at-most (upTo z) most, rw one refl, refl)
+    let a = greatestPassing (upTo z) most in
+    let next : a + 1 ≡ suc a = omega arith in
+    rw e (at-most (upTo z) most, rw next refl)
 
 pub ceiling-most : (a : ℕ) (z : ℤ) → a ≤ most → ceilingAfter a z ≤ suc most
 unfolding ceilingAfter
@@ -57,7 +52,7 @@ ceiling-most a z h = omega (arith, soon (atLeast z) (most - a) (suc a))
 
 module _ {f : Formula} (e : SignedEnds) (c : Convertible f e) where
   abbrev a : ℕ
-  a = greatest (upTo (e .low)) most
+  a = greatestPassing (upTo (e .low)) most
 
   abbrev b : ℕ
   b = ceilingAfter a (e .high)
@@ -117,16 +112,17 @@ module _ {f : Formula} (e : SignedEnds) (c : Convertible f e) where
         inside = m .right;
         from = λ some.
             let l = ln-encloses a (omega arith) (omega (arith, a-most)) .meets n g in
-            ≤q-trans (≤q-trans (l .right .from) (l .left .to))
-            (≤q-trans (units-order _ _ (a-holds (omega arith))) (m .left .from));
+            let up = le-out (lnMillionths a .high) (e .low) (a-holds (omega arith)) in
+            ≤q-trans (≤q-trans (l .right .from) (l .left .to)) (≤q-trans (units-rise _ _ up) (m .left .from));
         to =
             let l = ln-encloses b (omega (arith, b-after)) (omega (arith, b-most)) .meets n g in
-            ≤q-trans (≤q-trans (m .left .to) (units-order _ _ b-holds)) (≤q-trans (l .left .from) (l .right .to));
+            let up = le-out (e .high) (lnMillionths b .low) b-holds in
+            ≤q-trans (≤q-trans (m .left .to) (units-rise _ _ up)) (≤q-trans (l .left .from) (l .right .to));
       }
 
   -- what is promised of the two
   pub converts : MillionthsEnds f (millionthsFrom e .low) (millionthsFrom e .high)
-  unfolding millionthsFrom
+  unfolding millionthsFrom floorOf
   converts = record {
     between = record { some = omega (arith, b-after); defined = c .encloses .defined; meets = meets };
     order = omega (arith, b-after);

@@ -1,19 +1,18 @@
 -- The ends of ln(k/10^6): they enclose it, and those of a greater k are above those of a lesser one.
 use mathlib.Core.Path.{_≡_}
-use Prim.Native.Nat.{ℕ, suc, _+_, _*_, _-_, _^_, _≤_, _<_}
+use Prim.Native.Nat.{ℕ, _+_, _*_, _-_, _^_, _≤_, _<_}
 use native.Mathlib.Nat.{le-of-mul-le-mul-right}
 use native.Mathlib.Decide.{decLt}
 use native.Mathlib.Omega.{arith}
-use lib.Dec.{T, leb, leb→le, nleb→lt, not-T}
-use lib.IntN.{ℤ, subℕ}
-use lib.Signed.{leZ}
+use lib.Dec.{leb, leb→le, nleb→lt}
+use lib.IntN.{ℤ}
 use Rattle.toolbox_theory.specs.Whole.{up, down}
 use Rattle.toolbox_theory.proofs.Tests.{by-test}
-use Rattle.toolbox_theory.proofs.Whole.{le-in, le-out, gt-out, sub-is}
+use Rattle.toolbox_theory.proofs.Whole.{le-in, le-out, sub-is}
 use Rattle.exact_theory.specs.Pair.{_∈_}
 use Rattle.exact_theory.specs.Formula.{ln, ends, Encloses}
 use Rattle.exact_theory.proofs.Points.{value, Sound}
-use Rattle.exact_theory.proofs.UnitLaws.{in-order, lies-natural, lies-negated, lies-ends, lies-wider}
+use Rattle.exact_theory.proofs.UnitLaws.{in-order, lies-natural, lies-negated, lies-ends}
 use Rattle.interval_theory.specs.declared.SignedEnds.{SignedEnds}
 use Rattle.interval_theory.specs.Natural.{unit}
 use Rattle.interval_theory.specs.Signed.{betweenOf}

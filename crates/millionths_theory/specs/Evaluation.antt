@@ -32,10 +32,10 @@ lnMillionths k = cond (leb million k) (fromMillion k) (beforeMillion k)
 abbrev pub most : ℕ
 most = 8_388_607
 
--- the greatest k, up to the second number, that passes a test; 0 where none does
-unfoldable pub greatest : (ℕ → Bool) → ℕ → ℕ
-greatest test zero = zero
-greatest test (suc k) = cond (test (suc k)) (suc k) (greatest test k)
+-- the greatest k up to n that passes a test; 0 where none does
+unfoldable pub greatestPassing : (ℕ → Bool) → ℕ → ℕ
+greatestPassing test zero = zero
+greatestPassing test (suc n) = cond (test (suc n)) (suc n) (greatestPassing test n)
 
 -- ln(k/10^6) is surely up to z units
 abbrev pub upTo : ℤ → ℕ → Bool
@@ -43,12 +43,12 @@ upTo z k = leZ (lnMillionths k .high) z
 
 -- the greatest such k, and the low end of the next
 unfoldable pub floorOf : ℤ → Floor
-floorOf z = let a : ℕ = greatest (upTo z) most in record { whole = a; next = lnMillionths (suc a) .low }
+floorOf z = let a : ℕ = greatestPassing (upTo z) most in record { whole = a; next = lnMillionths (suc a) .low }
 
--- the first k, from the third number on, that passes a test, or the next after so many that do not
-unfoldable pub first : (ℕ → Bool) → ℕ → ℕ → ℕ
-first test zero k = k
-first test (suc n) k = cond (test k) k (first test n (suc k))
+-- the first number from k on that passes a test; where none of n does, the next
+unfoldable pub firstPassing : (ℕ → Bool) → ℕ → ℕ → ℕ
+firstPassing test zero k = k
+firstPassing test (suc n) k = cond (test k) k (firstPassing test n (suc k))
 
 -- ln(k/10^6) is surely z units or more
 abbrev pub atLeast : ℤ → ℕ → Bool
@@ -56,13 +56,12 @@ atLeast z k = leZ z (lnMillionths k .low)
 
 -- the first such k after a
 unfoldable pub ceilingAfter : ℕ → ℤ → ℕ
-ceilingAfter a z = first (atLeast z) (most - a) (suc a)
+ceilingAfter a z = firstPassing (atLeast z) (most - a) (suc a)
 
 -- from the ends of a logarithm: the greatest a with ln(a/10^6) up to the low one, and the first b after it with
 -- ln(b/10^6) from the high one on
 unfoldable pub millionthsFrom : SignedEnds → Millionths
-millionthsFrom e =
-    let a : ℕ = greatest (upTo (e .low)) most in record { low = a; high = ceilingAfter a (e .high) }
+millionthsFrom e = let a : ℕ = floorOf (e .low) .whole in record { low = a; high = ceilingAfter a (e .high) }
 
 -- of an answer, and of a scenario
 unfoldable pub inMillionths : Answer → MillionthsAnswer

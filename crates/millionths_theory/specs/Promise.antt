@@ -20,7 +20,7 @@ use Rattle.millionths_theory.specs.declared.MillionthsAnswer.the-variant
 abbrev pub million : ℕ
 million = 1_000_000
 
--- at fineness n some point of f's pair lies from the low sum of ln(a/10^6) to the high sum of ln(b/10^6), ends
+-- at fineness n some point of f's pair lies from the low end of ln(a/10^6)'s pair to the high end of ln(b/10^6)'s, ends
 -- included; "Where a is 0 it sets no lower bound"
 pub record MeetsMillionths (n : ℕ) (f : Formula) (a b : ℕ) : Type 0 where
   pub point : Fraction
@@ -29,7 +29,7 @@ pub record MeetsMillionths (n : ℕ) (f : Formula) (a b : ℕ) : Type 0 where
   pub to : point ≤q lnPair n b million .high
 
 -- "The exact value lies between ln(a/10^6) and ln(b/10^6), by the same sums at every fineness": document 01's
--- enclosure, `Encloses`, with the sums of two logarithms for ends; ln(b/10^6) is of a b of at least 1
+-- enclosure, `Encloses`, with these for ends; ln(b/10^6) is of a b of at least 1
 pub record BetweenMillionths (f : Formula) (a b : ℕ) : Type 0 where
   pub some : 1 ≤ b
   pub defined : (n : ℕ) → 1 ≤ n → Defined n f
@@ -39,26 +39,27 @@ pub record BetweenMillionths (f : Formula) (a b : ℕ) : Type 0 where
 abbrev pub Gap : ℕ → ℕ → Type 0
 Gap a b = b ≤ a + 2 + b / 100_000
 
--- a and b are in order, and f lies between them, so far apart at most
+-- f lies between a and b, which are in order and no farther apart than that
 pub record MillionthsEnds (f : Formula) (a b : ℕ) : Type 0 where
   pub between : BetweenMillionths f a b
   pub order : a ≤ b
   pub gap : Gap a b
 
--- what it takes to have them of f from the ends of an enclosure: no medianWidth is above the widest
+-- no median's ends may be farther apart (W-201)
 abbrev pub widest : ℕ
 widest = 4_000
 
+-- ends that enclose f, at most so far apart, and not above the most that a median's are
 pub record Convertible (f : Formula) (e : SignedEnds) : Type 0 where
   pub encloses : Encloses (ends (e .low) (e .high)) f
   pub narrow : e .high ≤ℤ (e .low +ℤ pos widest)
   pub few : e .high ≤ℤ pos medianMost
 
--- two numbers that come from the ends e: whatever these enclose so lies between the numbers
+-- two numbers that come from the ends e: every f that these enclose so lies between the numbers
 abbrev pub FromEnds : SignedEnds → Millionths → Type 0
 FromEnds e m = (f : Formula) → Convertible f e → MillionthsEnds f (m .low) (m .high)
 
--- the number and the values of each case: 0 is no refusal, and "A refusal returns its number only"
+-- the number and the values of each case (document 01): 0 is no refusal, and "A refusal returns its number only"
 abbrev pub millionthsNumber : MillionthsAnswer → ℕ
 millionthsNumber (M.Between m) = 0
 millionthsNumber (M.Refused k) = k

@@ -12,8 +12,8 @@ pub enum MillionthsAnswer {
     Refused(u8),
 }
 
-// Of ends of logarithms: the greatest whole number of millionths whose logarithm is up to one, and the low end of the
-// next one's logarithm.
+// Of some units of a logarithm: the greatest whole number of millionths whose logarithm is surely up to them, and the
+// low end of the next number's logarithm.
 pub struct Floor {
     pub whole: u64,
     pub next: i64,

@@ -7,8 +7,8 @@ ghost use lib.ListN.{getD};
 ghost use Rattle.interpolation_theory.specs.Steps.{neighboursOf};
 ghost use Rattle.scenario_theory.specs.Refusal.{idriss, booreAtkinson};
 ghost use Rattle.scenario_theory.specs.Rows.{rowCount};
-use interpolation::neighbours;
 use interpolation_theory::Neighbours;
+use period_step::neighbours;
 
 // Row k of Idriss's tables and the next.
 pub fn idriss_neighbours(k: usize) -> Neighbours

@@ -255,8 +255,8 @@ pub fn answer_record_in_doubles(bytes: &[u8]) -> Result<Enclosure<f64>, Refusal>
     unless_refused(answer.number, answer.ends)
 }
 
-/// The median in millionths of g: the exact one lies from low to high, and high less low is at most 2 and
-/// high/100,000, rounded down.
+/// The median in millionths of g: the exact one lies from low to high, and high less low is at most 2 plus
+/// high/100000 rounded down.
 pub fn millionths(scenario: &Scenario) -> Result<Millionths, Refusal> {
     let bounds = unsafe { raw::fusnoch_millionths(scenario.into()) };
     unless_refused(bounds.number, bounds.millionths)

@@ -6,7 +6,7 @@ use native.Mathlib.Omega.{arith}
 use mir.Syntax.{w64}
 use mir.Val.{toZ, ofZ, SFits}
 use mir.ValLaws.{toZ-ofZ}
-use Rattle.millionths_theory.specs.Evaluation.{lnMillionths, most, first, atLeast, ceilingAfter}
+use Rattle.millionths_theory.specs.Evaluation.{lnMillionths, most, firstPassing, atLeast, ceilingAfter}
 use Rattle.millionths_theory.proofs.Search.{first-here, first-none, first-next}
 use Rattle.antilogarithm.proofs.ceiling_after.Statement.{statement}
 use Rattle.antilogarithm.proofs.ceiling_after.Tie as tie
@@ -14,7 +14,7 @@ use Rattle.antilogarithm.proofs.ceiling_after.Tie as tie
 abbrev Inv-loop : tie.InvT-loop
 Inv-loop a next z k₀ low₀ k low =
     (k ≤ suc most) × (toZ w64 low ≡ lnMillionths k .low) ×
-    (first (atLeast (toZ w64 z)) (suc most - k) k ≡ ceilingAfter a (toZ w64 z))
+    (firstPassing (atLeast (toZ w64 z)) (suc most - k) k ≡ ceilingAfter a (toZ w64 z))
 
 abbrev μ-loop : tie.MeasureT-loop
 μ-loop a next z k₀ low₀ k low = suc most - k

@@ -8,7 +8,7 @@ use lib.Signed.{leZ}
 use mir.Syntax.{w64}
 use mir.Val.{toZ, ofZ, SFits}
 use mir.ValLaws.{toZ-ofZ}
-use Rattle.millionths_theory.specs.Evaluation.{lnMillionths, most, greatest, upTo, floorOf}
+use Rattle.millionths_theory.specs.Evaluation.{lnMillionths, most, greatestPassing, upTo, floorOf}
 use Rattle.millionths_theory.proofs.Search.{Sought, sought, tried}
 use Rattle.millionths_theory.proofs.Order.{upTo-falls}
 use Rattle.millionths_theory.proofs.Conversion.{last}
@@ -16,11 +16,11 @@ use Rattle.antilogarithm.proofs.floor.Statement.{statement}
 use Rattle.antilogarithm.proofs.floor.Tie as tie
 
 abbrev Inv-loop : tie.InvT-loop
-Inv-loop z near low₀ high₀ next₀ low high next =
+Inv-loop z start low₀ high₀ next₀ low high next =
     Sought (upTo (toZ w64 z)) most low high × (toZ w64 next ≡ lnMillionths high .low)
 
 abbrev μ-loop : tie.MeasureT-loop
-μ-loop z near low₀ high₀ next₀ low high next = high - low
+μ-loop z start low₀ high₀ next₀ low high next = high - low
 
 -- what is tried lies between them
 between : (c : tie.After-min Inv-loop μ-loop) →
@@ -50,10 +50,10 @@ unfolding floorOf
 found c =
     let s = c .before .before in
     let l = c .before .loop in
-    let a = greatest (upTo (s .args .z)) most in
-    let sought = rw (toZ-ofZ w64 (s .args .z) (s .fits .z)) at (l .inv .0) in
-    let low : l .low ≡ a = omega (arith, sought, c .loop-test .left) in
-    let high : l .high ≡ suc a = omega (arith, sought, c .loop-test .left) in
+    let a = greatestPassing (upTo (s .args .z)) most in
+    let left = rw (toZ-ofZ w64 (s .args .z) (s .fits .z)) at (l .inv .0) in
+    let low : l .low ≡ a = omega (arith, left, c .loop-test .left) in
+    let high : l .high ≡ suc a = omega (arith, left, c .loop-test .left) in
     rw (l .inv .1, high, low) refl
 
 pub floor-spec : {M : Type 1} → statement M

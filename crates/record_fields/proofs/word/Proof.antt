@@ -5,8 +5,8 @@ use native.Mathlib.Omega.{arith}
 use borrow.Author.Needs.{needs}
 use lib.ListN.{getD}
 use Rattle.record_theory.proofs.FieldLaws.{word-at}
-use Rattle.record_reading.proofs.word.Statement.{statement}
-use Rattle.record_reading.proofs.word.Tie as tie
+use Rattle.record_fields.proofs.word.Statement.{statement}
+use Rattle.record_fields.proofs.word.Tie as tie
 
 -- both are bytes
 bytes : (c : tie.After-shared-slice-known2) →

@@ -2,8 +2,8 @@
 use mathlib.Core.Path.{sym}
 use borrow.Author.Needs.{needs}
 use Rattle.record_theory.proofs.FieldLaws.{byte-at}
-use Rattle.record_reading.proofs.byte.Statement.{statement}
-use Rattle.record_reading.proofs.byte.Tie as tie
+use Rattle.record_fields.proofs.byte.Statement.{statement}
+use Rattle.record_fields.proofs.byte.Tie as tie
 
 pub byte-spec : {M : Type 1} → statement M
 byte-spec =

@@ -1,8 +1,8 @@
 -- `step` meets its contract.
 use mathlib.Core.Path.{refl}
 use borrow.Author.Needs.{needs}
-use Rattle.interpolation.proofs.step.Statement.{statement}
-use Rattle.interpolation.proofs.step.Tie as tie
+use Rattle.period_step.proofs.step.Statement.{statement}
+use Rattle.period_step.proofs.step.Tie as tie
 
 pub step-spec : {M : Type 1} → statement M
 step-spec =

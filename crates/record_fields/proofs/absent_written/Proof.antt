@@ -1,8 +1,8 @@
 -- `absent_written` meets its contract.
 use borrow.Author.Needs.{needs}
 use Rattle.record_theory.proofs.FieldLaws.{absent-written-is}
-use Rattle.record_reading.proofs.absent_written.Statement.{statement}
-use Rattle.record_reading.proofs.absent_written.Tie as tie
+use Rattle.record_fields.proofs.absent_written.Statement.{statement}
+use Rattle.record_fields.proofs.absent_written.Tie as tie
 
 pub absent-written-spec : {M : Type 1} → statement M
 absent-written-spec =

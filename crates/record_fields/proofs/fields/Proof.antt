@@ -10,8 +10,8 @@ use Rattle.record_theory.specs.Layout.{stands}
 use Rattle.record_theory.specs.Outcome.{mapIn}
 use Rattle.record_theory.specs.Steps.{Complete}
 use Rattle.record_theory.proofs.FieldLaws.{projectionAt, length-is, scenario-is}
-use Rattle.record_reading.proofs.fields.Statement.{statement}
-use Rattle.record_reading.proofs.fields.Tie as tie
+use Rattle.record_fields.proofs.fields.Statement.{statement}
+use Rattle.record_fields.proofs.fields.Tie as tie
 
 -- there are bytes for every field
 room : (s : List ℕ) → Complete s → projectionAt (mapIn s) + cond (stands 6 (mapIn s)) 2 0 ≤ length s

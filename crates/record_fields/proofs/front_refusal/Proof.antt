@@ -7,8 +7,8 @@ use lib.ListN.{length}
 use Rattle.scenario_theory.specs.Checks.{_when_}
 use Rattle.scenario_theory.proofs.CheckLaws.{is-first}
 use Rattle.record_theory.specs.Steps.{frontRefusal}
-use Rattle.record_reading.proofs.front_refusal.Statement.{statement}
-use Rattle.record_reading.proofs.front_refusal.Tie as tie
+use Rattle.record_fields.proofs.front_refusal.Statement.{statement}
+use Rattle.record_fields.proofs.front_refusal.Tie as tie
 
 -- what the last check comes to, where those before it pass
 last : (c : tie.After-record-length) →

@@ -1,7 +1,7 @@
 -- `byte_or` meets its contract.
 use native.Mathlib.Omega.{arith}
-use Rattle.record_reading.proofs.byte_or.Statement.{statement}
-use Rattle.record_reading.proofs.byte_or.Tie as tie
+use Rattle.record_fields.proofs.byte_or.Statement.{statement}
+use Rattle.record_fields.proofs.byte_or.Tie as tie
 
 pub byte-or-spec : {M : Type 1} → statement M
 byte-or-spec =

@@ -1,8 +1,8 @@
 -- `rupture_if` meets its contract.
 use mathlib.Core.Path.{refl}
 use native.Mathlib.Omega.{arith}
-use Rattle.record_reading.proofs.rupture_if.Statement.{statement}
-use Rattle.record_reading.proofs.rupture_if.Tie as tie
+use Rattle.record_fields.proofs.rupture_if.Statement.{statement}
+use Rattle.record_fields.proofs.rupture_if.Tie as tie
 
 pub rupture-if-spec : {M : Type 1} → statement M
 rupture-if-spec =

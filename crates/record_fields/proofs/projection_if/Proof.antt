@@ -1,8 +1,8 @@
 -- `projection_if` meets its contract.
 use mathlib.Core.Path.{refl}
 use native.Mathlib.Omega.{arith}
-use Rattle.record_reading.proofs.projection_if.Statement.{statement}
-use Rattle.record_reading.proofs.projection_if.Tie as tie
+use Rattle.record_fields.proofs.projection_if.Statement.{statement}
+use Rattle.record_fields.proofs.projection_if.Tie as tie
 
 pub projection-if-spec : {M : Type 1} → statement M
 projection-if-spec =

@@ -1,7 +1,7 @@
 -- `word_or` meets its contract.
 use native.Mathlib.Omega.{arith}
-use Rattle.record_reading.proofs.word_or.Statement.{statement}
-use Rattle.record_reading.proofs.word_or.Tie as tie
+use Rattle.record_fields.proofs.word_or.Statement.{statement}
+use Rattle.record_fields.proofs.word_or.Tie as tie
 
 pub word-or-spec : {M : Type 1} → statement M
 word-or-spec =
