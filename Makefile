@@ -3,7 +3,7 @@
 # make lib       proves the library for C, Rust and Python and writes it to target/lib, with its header
 # make examples  prints a spectrum by way of C, of Rust and of Python
 # make bench     measures the library beside plain C doubles and Arb
-# make longer    the test of the program on many more records
+# make longer    the tests of the program and of millionths on many more scenarios
 
 export PATH := $(PATH):/opt/rattle/bin:$(HOME)/.cargo/bin
 export PYTHONDONTWRITEBYTECODE := 1
@@ -36,8 +36,9 @@ test: definitions
 	rt ci 2>&1 | tee $$verdict && $(MAKE) --no-print-directory -j 3 -O outside && tail -n 1 $$verdict; \
 	status=$$?; rm -f $$verdict; exit $$status
 
-longer: program
+longer: program hosts
 	python3 tests/test_enclosures.py $(PROGRAM) 1000000 2008
+	python3 tests/test_millionths.py $(firstword $(ASKS)) 100000 2008
 
 examples: hosts
 	for spectrum in $(SPECTRA); do echo "$$spectrum"; echo; $$spectrum || exit 1; echo; done
