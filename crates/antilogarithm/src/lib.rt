@@ -25,8 +25,8 @@ fn ln_millionths(k: u64) -> SignedEnds
     between(0, e.high, 0, e.low)
 }
 
-// The greatest k with ln(k/10^6) up to z, and the low end of the next. The search goes number by number from the start,
-// wherever that is.
+// The greatest k with ln(k/10^6) up to z, and the low end of the next, at first that of 8,388,608. The search goes
+// number by number from the start, wherever that is.
 fn floor(z: i64, start: u64) -> Floor
     ensures { λ r. ⌜ r ≡ floorOf z ⌝ }
 {
@@ -69,7 +69,7 @@ fn term(c: u64, r: u64, f: u64) -> u64
     c + r * f / 4_294_967_296
 }
 
-// 2^f in units of 2^-31, for f in units of 2^-32, nearly.
+// 2^f in units of 2^-31, for f in units of 2^-32, nearly: a polynomial of degree 6.
 fn power_of_two(f: u64) -> u64
     requires { ⌜ f < 2 ^ 32 ⌝ }
 {
@@ -81,7 +81,7 @@ fn power_of_two(f: u64) -> u64
     term(2_147_483_653, r, f)
 }
 
-// z + ln 10^6 in units of 10^-9, for z in these units, from 0 to some 15.9.
+// z + ln 10^6, for z in units of 10^-9, held from 0 to ln 10^6 + 2.126.
 fn shifted(z: i64) -> u64
     ensures { λ r. ⌜ r ≤ 15_941_510_558 ⌝ }
 {
@@ -92,7 +92,8 @@ fn shifted(z: i64) -> u64
     13_815_510_558 + min(size, 2_126_000_000)
 }
 
-// 10^6 e^z, for z in units of 10^-9, nearly: where the search starts. Nothing but its time rests on it.
+// 10^6 e^z, for z in units of 10^-9, nearly, by its logarithm to the base 2 in units of 2^-32: where the search starts.
+// Nothing but its time rests on it.
 fn near(z: i64) -> u64 {
     let octaves = shifted(z) * 831_657_069 / 134_217_728;
     power_of_two(octaves % 4_294_967_296) >> (31 - octaves / 4_294_967_296)
