@@ -93,14 +93,14 @@ lib: need
 	$(CC) -shared -o $(LIB)/libfusnoch.so -Wl,--whole-archive $(LIB)/libfusnoch.a -Wl,--no-whole-archive
 	tools/header crates/host/src/lib.rt crates/host_theory/src/lib.rt crates/engine_theory/src/lib.rt > $(LIB)/fusnoch.h
 
-# The hosts' programs; cargo finds its settings from the directory it runs in, and make's pipe is not lent to it.
+# The hosts' programs; cargo finds its settings from the directory it runs in.
 hosts: need_hosts lib
 	mkdir -p target/hosts/c
 	for program in ask spectrum; do \
 	    $(CC) -O2 -std=c99 $(WARN) -I$(LIB) -o target/hosts/c/$$program hosts/c/$$program.c hosts/c/ground_motion.c \
 	        $(LIB)/libfusnoch.a || exit 1; \
 	done
-	cd hosts/rust && env -u MAKEFLAGS -u MFLAGS cargo build --quiet --offline --release --bins --examples
+	cd hosts/rust && cargo build --quiet --offline --release --bins --examples
 
 # A program over the proved libraries, for the tests.
 probe: need

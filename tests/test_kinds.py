@@ -70,7 +70,8 @@ def main(words):
         print('usage: test_kinds.py HEADERS', file=sys.stderr)
         return 2
     # Under make -j a compiler would look for make's own pipe, which it is not lent.
-    os.environ.pop('MAKEFLAGS', None)
+    for name in ('MAKEFLAGS', 'MFLAGS'):
+        os.environ.pop(name, None)
     with tempfile.TemporaryDirectory() as directory:
         c_source, rust_source = (os.path.join(directory, name) for name in ('kinds.c', 'kinds.rs'))
         wrapper = os.path.join(directory, 'libfusnoch.rmeta')
