@@ -10,8 +10,8 @@ use Rattle.logarithm_theory.specs.Chain.{LnChain, LnSteps}
 use Rattle.logarithm_theory.proofs.Laws.{lnOf-rounded, lnOf-least}
 
 -- k units, where (a − b)/a is at least that
-step : {a b : ℕ} → LnDomain a b → (k : ℕ) → k * a ≤ (a - b) * unit → k ≤ lnOf a b .high
-step {a} d k h = le-of-mul-le-mul-right {k = a} (omega (arith, lnOf-least d)) (omega arith)
+pub at-least : {a b : ℕ} → LnDomain a b → (k : ℕ) → k * a ≤ (a - b) * unit → k ≤ lnOf a b .high
+at-least {a} d k h = le-of-mul-le-mul-right {k = a} (omega (arith, lnOf-least d)) (omega arith)
 
 module _ {a b c : ℕ} (d : LnDomain a c) (hc : c ≤ b) (hb : b ≤ a) where
   upper : LnDomain a b
@@ -32,6 +32,6 @@ module _ {a b c : ℕ} (d : LnDomain a c) (hc : c ≤ b) (hb : b ≤ a) where
       let parts : lnOf b c .high + lnOf a b .high ≤ lnOf a c .low + 3 * lnWidth =
       omega (arith, lnOf-chain, lnOf-rounded d .sized, lnOf-rounded upper .sized, lnOf-rounded lower .sized) in
       record {
-        numerators = λ g h. omega (arith, step upper (g + 3 * lnWidth) h);
-        denominators = λ g h. omega (arith, step lower (g + 3 * lnWidth) h);
+        numerators = λ g h. omega (arith, at-least upper (g + 3 * lnWidth) h);
+        denominators = λ g h. omega (arith, at-least lower (g + 3 * lnWidth) h);
       }

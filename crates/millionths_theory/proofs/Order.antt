@@ -1,7 +1,6 @@
 -- The ends of ln(k/10^6): they enclose it, and those of a greater k are above those of a lesser one.
 use mathlib.Core.Path.{_≡_}
 use Prim.Native.Nat.{ℕ, _+_, _*_, _-_, _^_, _≤_, _<_}
-use native.Mathlib.Nat.{le-of-mul-le-mul-right}
 use native.Mathlib.Decide.{decLt}
 use native.Mathlib.Omega.{arith}
 use lib.Dec.{leb, leb→le, nleb→lt}
@@ -18,8 +17,8 @@ use Rattle.interval_theory.specs.Natural.{unit}
 use Rattle.interval_theory.specs.Signed.{betweenOf}
 use Rattle.logarithm_theory.specs.Promise.{LnDomain, lnWidth}
 use Rattle.logarithm_theory.specs.Evaluation.{lnOf}
-use Rattle.logarithm_theory.proofs.Laws.{lnOf-rounded, lnOf-least}
-use Rattle.logarithm_theory.proofs.Chain.{lnOf-chain, lnOf-steps}
+use Rattle.logarithm_theory.proofs.Laws.{lnOf-rounded}
+use Rattle.logarithm_theory.proofs.Chain.{at-least, lnOf-chain, lnOf-steps}
 use Rattle.logarithm_theory.proofs.Enclosure.{encloses}
 use Rattle.millionths_theory.specs.Promise.{million}
 use Rattle.millionths_theory.specs.Evaluation.{fromMillion, beforeMillion, lnMillionths, most, upTo}
@@ -58,11 +57,9 @@ module _ {j k : ℕ} (g : ℕ) (some : 1 ≤ j) (order : j ≤ k) (small : k < 2
   across : j < million → million ≤ k → g ≤ lnOf k million .low + lnOf million j .low
   across before after =
       let whole : LnDomain k j = omega arith in
-      let least : g + 3 * lnWidth ≤ lnOf k j .high =
-      le-of-mul-le-mul-right {k = k} (omega (arith, lnOf-least whole)) (omega arith) in
       omega (
         arith,
-        least,
+        at-least whole (g + 3 * lnWidth) wide,
         lnOf-chain {b = million} whole (omega arith) after,
         lnOf-rounded whole .sized,
         lnOf-rounded {a = k} {b = million} (omega arith) .sized,
