@@ -1,7 +1,7 @@
 # make run       proves the program and prints the enclosures of a sample file
 # make test      all that the gate runs; its last line is 'N passed, 0 failed'
 # make lib       proves the library for C, Rust and Python and writes it to target/lib, with its header
-# make examples  prints a spectrum by way of C, of Rust and of Python
+# make examples  prints a spectrum and a page of earthquakes by way of C, of Rust and of Python
 # make bench     measures the library beside plain C doubles and Arb
 # make longer    the tests of the program and of millionths on many more scenarios
 
@@ -14,16 +14,17 @@ PROBE := target/tests/probe
 PROGRAM := target/bin/enclosures
 SAMPLE := tests/streams/sample
 LIB := target/lib
-# What the hosts' programs are, in C, Rust and Python: one answers the tests' questions, one prints a spectrum.
+# The hosts' programs, in C, Rust and Python: one answers the tests' questions, one prints a spectrum, one a sheet.
 ASKS := target/hosts/c/ask target/hosts/rust/release/ask hosts/python/ask.py
 SPECTRA := target/hosts/c/spectrum target/hosts/rust/release/examples/spectrum hosts/python/spectrum.py
+SHEETS := target/hosts/c/sheet target/hosts/rust/release/examples/sheet hosts/python/sheet.py
 BENCH := target/bench/bench
 # rt keeps what it has proved in target, so that two of it at a time would disturb each other there.
 ALONE := flock target/tests/lock
 
 .PHONY: run test lib examples bench longer definitions outside hosts probe program need need_hosts need_bench need_test
 .PHONY: test_logarithm test_records test_models test_answers test_millionths test_enclosures test_program_failures
-.PHONY: test_hosts test_kinds
+.PHONY: test_hosts test_sheets test_kinds
 .SILENT:
 
 run: program
@@ -41,7 +42,7 @@ longer: program hosts
 	python3 tests/test_millionths.py $(firstword $(ASKS)) 100000 2008
 
 examples: hosts
-	for spectrum in $(SPECTRA); do echo "$$spectrum"; echo; $$spectrum || exit 1; echo; done
+	for example in $(SPECTRA) $(SHEETS); do echo "$$example"; echo; $$example || exit 1; echo; done
 
 # The nanoseconds depend on the machine and on what else it does; the instructions do not.
 bench: need_bench lib
@@ -65,7 +66,7 @@ definitions: need_test
 
 # The tests of the program come first, as they need no library, and run while the libraries are built.
 outside: test_enclosures test_program_failures test_logarithm test_models test_records test_answers test_millionths
-outside: test_kinds test_hosts
+outside: test_kinds test_sheets test_hosts
 
 test_logarithm test_models: test_%: probe
 	python3 tests/$@.py $(PROBE)
@@ -79,11 +80,17 @@ test_answers test_millionths: test_%: hosts
 test_hosts: hosts
 	python3 tests/$@.py $(ASKS) $(SPECTRA)
 
+test_sheets: hosts
+	python3 tests/$@.py $(ASKS) $(SHEETS)
+
 test_kinds: hosts
 	python3 tests/$@.py $(LIB)
 
 test_enclosures test_program_failures: test_%: program
 	python3 tests/$@.py $(PROGRAM)
+
+# The crates of what the header has: the functions first, then the structs that they use.
+HEADER := host host_theory engine_theory sheet_theory
 
 # The library for hosts: static and shared, and its header.
 lib: need
@@ -91,12 +98,12 @@ lib: need
 	$(ALONE) rt staticlib host > target/tests/host.log 2>&1 || { cat target/tests/host.log; exit 1; }
 	cp target/staticlib/libhost.a $(LIB)/libfusnoch.a
 	$(CC) -shared -o $(LIB)/libfusnoch.so -Wl,--whole-archive $(LIB)/libfusnoch.a -Wl,--no-whole-archive
-	tools/header crates/host/src/lib.rt crates/host_theory/src/lib.rt crates/engine_theory/src/lib.rt > $(LIB)/fusnoch.h
+	tools/header $(HEADER:%=crates/%/src/lib.rt) > $(LIB)/fusnoch.h
 
 # The hosts' programs; cargo finds its settings from the directory it runs in.
 hosts: need_hosts lib
 	mkdir -p target/hosts/c
-	for program in ask spectrum; do \
+	for program in ask spectrum sheet; do \
 	    $(CC) -O2 -std=c99 $(WARN) -I$(LIB) -o target/hosts/c/$$program hosts/c/$$program.c hosts/c/ground_motion.c \
 	        $(LIB)/libfusnoch.a || exit 1; \
 	done

@@ -30,10 +30,10 @@ import os
 import random
 import re
 import sys
-from ctypes import Structure
+from ctypes import Array, Structure
 from decimal import Decimal
 from functools import partial
-from itertools import product
+from itertools import chain, product
 from typing import NamedTuple, Union
 
 import streams
@@ -63,7 +63,7 @@ VALGRIND = ('valgrind', '--error-exitcode=99', '--leak-check=full', '-q')
 # A number of bytes that does not fit 16 bits; its low 16 bits are 3, too few for a record.
 MANY = 65536 + 3
 
-# 'What is turned away', the word and the condition; as W-201 and W-202 leave them.
+# 'What is turned away', the word and the condition; as W-201, W-202 and W-204 leave them.
 WORDS = (
     'model: neither 1 nor 2',
     "magnitude: beyond the model's limits",
@@ -78,6 +78,7 @@ WORDS = (
     'plain default: a field written with its absent number',
     'page full: lent bytes shorter than the record',
     'distances: the projection distance exceeds the rupture distance',
+    'sheet: more than 64 scenarios',
 )
 
 # What the rows of some periods are called, typed in by hand.
@@ -242,7 +243,7 @@ def small_questions():
     for model, period, words in ROWS_WORDS:
         asked += [Question(f'rows_words {model} {period}', words), *about_records([f'rows {model} {period}'])]
     asked += [Question(f'words {number}', words) for number, words in enumerate(WORDS, 1)]
-    asked += [Question(f'words {number}', 'not a refusal') for number in (0, 14, 255)]
+    asked += [Question(f'words {number}', 'not a refusal') for number in (0, 15, 255)]
     return asked + [Question('null', '7 7 7 12 7 7 7 12')]
 
 
@@ -615,11 +616,13 @@ def python_calls(fusnoch):
         yield record(one), fusnoch.record, in_python(fusnoch, one)
 
 
-def numbers_in(structure):
-    """Yield all numbers of a structure of ctypes, and of those in it."""
-    for name, *_ in structure._fields_:
-        value = getattr(structure, name)
-        yield from numbers_in(value) if isinstance(value, Structure) else [value]
+def numbers_in(value):
+    """Yield all numbers of a structure or an array of ctypes, and of those in it, in their order."""
+    if isinstance(value, (Structure, Array)):
+        parts = value if isinstance(value, Array) else (getattr(value, name) for name, *_ in value._fields_)
+        yield from chain.from_iterable(map(numbers_in, parts))
+    else:
+        yield value
 
 
 def zeros_faults(fusnoch):

@@ -6,6 +6,8 @@
    answer SCENARIO, answer_record BYTES, doubles SCENARIO, doubles_record BYTES
                           E and four ends, or R NUMBER; a double is printed as the whole number that it equals
    millionths SCENARIO    E and two whole numbers, or R NUMBER
+   sheet SCENARIO ..      S COUNT and at each place | E and four ends, or | R NUMBER; or R NUMBER alone, of the sheet;
+                          any number of scenarios, none too
    words NUMBER           what the number of a refusal stands for
    rows MODEL PERIOD      T and the periods of the two rows that an answer rests on, or R NUMBER
    rows_words MODEL PERIOD
@@ -16,7 +18,15 @@
    order, each flag before its distance):
    refusal_flags FIELDS   as refusal
    answer_flags FIELDS    as answer
-   read_flags BYTES       NUMBER FIELDS LENGTH, as fusnoch_read hands them back */
+   read_flags BYTES       NUMBER FIELDS LENGTH, as fusnoch_read hands them back
+   And in C alone, of a sheet:
+   sheet_places COUNT SCENARIO ..
+                          NUMBER COUNT and at each of the 64 places | NUMBER and four ends, as fusnoch_answer_sheet
+                          hands them back; just 64 scenarios, whatever the count
+   sheet_null COUNT       NUMBER COUNT by the wrapper, with a null pointer
+   What should hold zeros, and does not, is said: with ends, bounds or periods where a result is refused, with more
+   where a sheet has more than its count. */
+#include <errno.h>
 #include <inttypes.h>
 #include <stdio.h>
 #include <stdlib.h>
@@ -24,12 +34,12 @@
 
 #include "ground_motion.h"
 
-enum { LONGEST = 70000, SCENARIO_WORDS = 7, FLAGS_WORDS = 9, MOST_WORDS = 11 };
+enum { LONGEST = 70000, LINE = 2 * LONGEST + 100, SCENARIO_WORDS = 7, FLAGS_WORDS = 9, SHOWN_WORDS = 11 };
 
-/* The words of a line; the first is the name of the question, and no question has the most. */
+/* The words of a line, which has no more of them than bytes; the first is the name of the question. */
 typedef struct {
     size_t count;
-    char *at[MOST_WORDS];
+    char *at[LINE];
 } Words;
 
 /* Bytes in memory of just their length, so that valgrind sees what is beyond. */
@@ -37,6 +47,12 @@ typedef struct {
     uint8_t *at;
     size_t length;
 } Bytes;
+
+/* Scenarios in memory of just their size, for the same reason. */
+typedef struct {
+    fusnoch_scenario *at;
+    size_t count;
+} Scenarios;
 
 static int take_bytes(const char *text, Bytes *bytes)
 {
@@ -55,8 +71,9 @@ static int take_bytes(const char *text, Bytes *bytes)
 /* A number up to the most: one that does not fit its field is none. */
 static int take_number(const char *word, unsigned long most, unsigned long *number)
 {
+    errno = 0;
     *number = strtoul(word, NULL, 10);
-    return *word != '\0' && word[strspn(word, "0123456789")] == '\0' && *number <= most;
+    return *word != '\0' && word[strspn(word, "0123456789")] == '\0' && errno == 0 && *number <= most;
 }
 
 static int take_u8(const char *word, uint8_t *field)
@@ -74,6 +91,15 @@ static int take_u16(const char *word, uint16_t *field)
     int fits = take_number(word, UINT16_MAX, &number);
 
     *field = (uint16_t)number;
+    return fits;
+}
+
+static int take_size(const char *word, size_t *field)
+{
+    unsigned long number;
+    int fits = take_number(word, SIZE_MAX, &number);
+
+    *field = number;
     return fits;
 }
 
@@ -110,6 +136,22 @@ static int take_scenario(char *const word[SCENARIO_WORDS], fusnoch_scenario *s)
            && take_projection(word[6], s);
 }
 
+static int take_places(char *const *word, size_t count, fusnoch_scenario *places)
+{
+    for (size_t i = 0; i < count; i++, word += SCENARIO_WORDS)
+        if (!take_scenario(word, places + i))
+            return 0;
+    return 1;
+}
+
+/* All words as scenarios; the memory of none may be a null pointer. */
+static int take_scenarios(char *const *word, size_t words, Scenarios *s)
+{
+    s->count = words / SCENARIO_WORDS;
+    s->at = malloc(s->count * sizeof *s->at);
+    return words % SCENARIO_WORDS == 0 && (s->at != NULL || s->count == 0) && take_places(word, s->count, s->at);
+}
+
 static int take_flags(char *const word[FLAGS_WORDS], fusnoch_scenario *s)
 {
     return take_u8(word[0], &s->model) && take_u16(word[1], &s->magnitude) && take_u8(word[2], &s->rupture_present)
@@ -125,15 +167,80 @@ static void print_bytes(const uint8_t *bytes, size_t length)
     puts(length == 0 ? "-" : "");
 }
 
+static int has_ends(fusnoch_answer a)
+{
+    return a.median_low != 0 || a.median_high != 0 || a.sigma_low != 0 || a.sigma_high != 0;
+}
+
+static void print_ends(fusnoch_answer a)
+{
+    printf(" %" PRId64 " %" PRId64 " %" PRId64 " %" PRId64, a.median_low, a.median_high, a.sigma_low, a.sigma_high);
+}
+
+/* An answer without the line's end, as it stands at a place of a sheet. */
+static void print_place(fusnoch_answer a)
+{
+    if (a.number == 0) {
+        printf("E");
+        print_ends(a);
+    } else
+        printf("R %u%s", a.number, has_ends(a) ? " with ends" : "");
+}
+
 static void print_answer(fusnoch_answer a)
 {
-    if (a.number == 0)
-        printf("E %" PRId64 " %" PRId64 " %" PRId64 " %" PRId64 "\n", a.median_low, a.median_high, a.sigma_low,
-               a.sigma_high);
-    else if (a.median_low == 0 && a.median_high == 0 && a.sigma_low == 0 && a.sigma_high == 0)
-        printf("R %u\n", a.number);
-    else
-        printf("R %u with ends\n", a.number);
+    print_place(a);
+    puts("");
+}
+
+/* What a sheet has at a place. */
+static fusnoch_answer answer_at(const fusnoch_sheet *sheet, size_t place)
+{
+    return (fusnoch_answer){.number = sheet->numbers[place],
+                            .median_low = sheet->median_low[place],
+                            .median_high = sheet->median_high[place],
+                            .sigma_low = sheet->sigma_low[place],
+                            .sigma_high = sheet->sigma_high[place]};
+}
+
+/* Whether a sheet has anything but zeros from a place on. */
+static int has_more(const fusnoch_sheet *sheet, size_t place)
+{
+    for (; place < GROUND_MOTION_SHEET; place++)
+        if (sheet->numbers[place] != 0 || has_ends(answer_at(sheet, place)))
+            return 1;
+    return 0;
+}
+
+static void print_sheet(fusnoch_sheet sheet)
+{
+    if (sheet.number != 0) {
+        printf("R %u%s\n", sheet.number, sheet.count != 0 || has_more(&sheet, 0) ? " with more" : "");
+        return;
+    }
+    printf("S %zu", sheet.count);
+    for (size_t i = 0; i < sheet.count && i < GROUND_MOTION_SHEET; i++) {
+        printf(" | ");
+        print_place(answer_at(&sheet, i));
+    }
+    puts(has_more(&sheet, sheet.count) ? " with more" : "");
+}
+
+static void print_places(fusnoch_sheet sheet)
+{
+    printf("%u %zu", sheet.number, sheet.count);
+    for (size_t i = 0; i < GROUND_MOTION_SHEET; i++) {
+        printf(" | %u", sheet.numbers[i]);
+        print_ends(answer_at(&sheet, i));
+    }
+    puts("");
+}
+
+static void print_sheet_null(size_t count)
+{
+    fusnoch_sheet sheet = ground_motion_answer_sheet(NULL, count);
+
+    printf("%u %zu%s\n", sheet.number, sheet.count, has_more(&sheet, 0) ? " with more" : "");
 }
 
 /* With 17 digits, which a whole number takes as it is and any other shows. */
@@ -299,25 +406,50 @@ static int answer_bytes(const char *name, const char *text)
 static int answer_word(const char *name, const char *word)
 {
     uint8_t number;
+    size_t count;
 
-    if (strcmp(name, "words") != 0)
+    if (strcmp(name, "words") == 0 && take_u8(word, &number))
+        puts(ground_motion_words(number));
+    else if (strcmp(name, "sheet_null") == 0 && take_size(word, &count))
+        print_sheet_null(count);
+    else
         return answer_bytes(name, word);
-    if (!take_u8(word, &number))
-        return 0;
-    puts(ground_motion_words(number));
     return 1;
 }
 
-/* Answers a line; 0 where it is no question.  How many words there are says of what kind they are. */
-static int answer(const Words *line)
+/* Answers a sheet of all words; 0 where they are no scenarios. */
+static int answer_sheet(char *const *word, size_t words)
 {
-    const char *name = line->at[0];
-    char *const *word = line->at + 1;
+    Scenarios s;
+    int known = take_scenarios(word, words, &s);
+
+    if (known)
+        print_sheet(ground_motion_answer_sheet(s.at, s.count));
+    free(s.at);
+    return known;
+}
+
+/* Answers a sheet of a count and all places; 0 where the words are not these. */
+static int answer_sheet_places(char *const *word, size_t words)
+{
+    fusnoch_scenarios s;
+    size_t count;
+
+    if (words != 1 + GROUND_MOTION_SHEET * SCENARIO_WORDS || !take_size(word[0], &count)
+        || !take_places(word + 1, GROUND_MOTION_SHEET, s.places))
+        return 0;
+    print_places(fusnoch_answer_sheet(count, s));
+    return 1;
+}
+
+/* Answers a question with few words; 0 where it is none.  How many they are says of what kind they are. */
+static int answer_words(const char *name, char *const *word, size_t words)
+{
     fusnoch_scenario s;
     uint8_t model;
     uint16_t period;
 
-    switch (line->count - 1) {
+    switch (words) {
     case 0:
         if (strcmp(name, "null") != 0)
             return 0;
@@ -338,31 +470,44 @@ static int answer(const Words *line)
     }
 }
 
-/* Parts a line into its words, up to the most. */
-static Words words_of(char *line)
+/* Answers a line; 0 where it is no question. */
+static int answer(const Words *line)
 {
-    Words words = {.count = 0};
+    const char *name = line->at[0];
+    char *const *word = line->at + 1;
+    size_t words = line->count - 1;
 
+    if (strcmp(name, "sheet") == 0)
+        return answer_sheet(word, words);
+    if (strcmp(name, "sheet_places") == 0)
+        return answer_sheet_places(word, words);
+    return answer_words(name, word, words);
+}
+
+/* Parts a line into its words. */
+static void find_words(char *line, Words *words)
+{
     line[strcspn(line, "\n")] = '\0';
-    do {
-        words.at[words.count++] = line;
+    words->count = 0;
+    for (;;) {
+        words->at[words->count++] = line;
         line += strcspn(line, " ");
         if (*line == '\0')
-            return words;
+            return;
         *line++ = '\0';
-    } while (words.count < MOST_WORDS);
-    return words;
+    }
 }
 
 int main(void)
 {
-    static char line[2 * LONGEST + 100];
+    static char line[LINE];
+    static Words words;
 
     while (fgets(line, sizeof line, stdin)) {
-        Words words = words_of(line);
+        find_words(line, &words);
         if (!answer(&words)) {
             fprintf(stderr, "ask: not a question:");
-            for (size_t i = 0; i < words.count; i++)
+            for (size_t i = 0; i < words.count && i < SHOWN_WORDS; i++)
                 fprintf(stderr, " %.200s", words.at[i]);
             fprintf(stderr, "\n");
             return 1;

@@ -17,7 +17,8 @@ static const char *const WORDS[] = {
     "blank: no bit stands",
     "plain default: a field written with its absent number",
     "page full: lent bytes shorter than the record",
-    "distances: the projection distance exceeds the rupture distance"};
+    "distances: the projection distance exceeds the rupture distance",
+    "sheet: more than 64 scenarios"};
 
 const char *ground_motion_words(uint8_t number)
 {
@@ -65,10 +66,10 @@ void ground_motion_set_projection_distance(fusnoch_scenario *scenario, ground_mo
     scenario->projection_distance = distance.hundredths;
 }
 
-/* A null pointer counts as no bytes. */
-static size_t present(const uint8_t *bytes, size_t length)
+/* A null pointer counts as no bytes, or as no scenarios. */
+static size_t present(const void *pointer, size_t length)
 {
-    return bytes ? length : 0;
+    return pointer ? length : 0;
 }
 
 fusnoch_answer ground_motion_answer_record(const uint8_t *bytes, size_t length)
@@ -89,6 +90,19 @@ ground_motion_reading ground_motion_read(const uint8_t *bytes, size_t length)
         return (ground_motion_reading){.number = r.number};
     return (ground_motion_reading){
         .scenario = r.scenario, .rest = bytes + r.length, .rest_length = length - r.length};
+}
+
+/* A count that is too great goes to the engine as it is, to be refused there. */
+fusnoch_sheet ground_motion_answer_sheet(const fusnoch_scenario *scenarios, size_t count)
+{
+    fusnoch_scenarios s = {.places = {{.model = 0}}};
+
+    if (count <= GROUND_MOTION_SHEET) {
+        count = present(scenarios, count);
+        for (size_t i = 0; i < count; i++)
+            s.places[i] = scenarios[i];
+    }
+    return fusnoch_answer_sheet(count, s);
 }
 
 fusnoch_writing ground_motion_write(fusnoch_scenario scenario, uint8_t *lent, size_t length)

@@ -1,9 +1,11 @@
 /* Ground motion with proved ends, for programs in C: the safe way to the functions of fusnoch.h that take a pointer,
-   and the words of the refusals and of the rows that a median rests on.  fusnoch_refusal, fusnoch_answer_fields,
-   fusnoch_answer_fields_in_doubles, fusnoch_millionths and fusnoch_rows take no pointer and are called as they are.
+   and to a sheet of scenarios; and the words of the refusals and of the rows that a median rests on.  fusnoch_refusal,
+   fusnoch_answer_fields, fusnoch_answer_fields_in_doubles, fusnoch_millionths and fusnoch_rows take no pointer and are
+   called as they are.  fusnoch_answer_sheet takes none either, but a struct of 64 scenarios, of which those at places
+   from the count on are not read; ground_motion_answer_sheet takes just as many as there are.
 
    The number of a result is 0, or that of the refusal; a refused result has zeros for all else.  A null pointer counts
-   as no bytes, whatever the length.
+   as no bytes, whatever the length, and as no scenarios, unless the count is more than a sheet has.
 
    A scenario has two distances, and each model reads its own: Idriss that to the rupture, Boore-Atkinson that to its
    surface projection.  A distance stands only where its flag does: a number without its flag is absent, even if it is
@@ -46,7 +48,7 @@ typedef struct {
     size_t rest_length;
 } ground_motion_reading;
 
-/* What the number of a refusal, 1 to 13, stands for: "period: neither 0 nor from 10 to 10000". */
+/* What the number of a refusal, 1 to 14, stands for: "period: neither 0 nor from 10 to 10000". */
 const char *ground_motion_words(uint8_t number);
 
 /* Room for the words of ground_motion_rows_words. */
@@ -59,6 +61,14 @@ const char *ground_motion_rows_words(char room[GROUND_MOTION_ROWS_ROOM], uint8_t
 fusnoch_answer ground_motion_answer_record(const uint8_t *bytes, size_t length);
 fusnoch_doubles ground_motion_answer_record_in_doubles(const uint8_t *bytes, size_t length);
 ground_motion_reading ground_motion_read(const uint8_t *bytes, size_t length);
+
+/* The most scenarios that a sheet has. */
+enum { GROUND_MOTION_SHEET = 64 };
+
+/* Answers so many scenarios in one go, each at its place as fusnoch_answer_fields answers it; one that is refused does
+   not stop the others.  The count is looked at first: with more than GROUND_MOTION_SHEET the sheet's own number is 14,
+   and nothing is read. */
+fusnoch_sheet ground_motion_answer_sheet(const fusnoch_scenario *scenarios, size_t count);
 
 /* Puts the record at the front of the lent bytes; refused, it leaves them as they are. */
 fusnoch_writing ground_motion_write(fusnoch_scenario scenario, uint8_t *lent, size_t length);

@@ -10,6 +10,9 @@ from dataclasses import astuple
 import fusnoch
 from fusnoch import LIBRARY, Refused, Scenario
 
+# How many words a scenario has.
+SCENARIO_WORDS = 7
+
 
 def taken(text):
     """Return the bytes of a text."""
@@ -21,12 +24,29 @@ def show(data):
     return data.hex() or '-'
 
 
+def shown(answer):
+    """Return an answer, or a refusal, as a text; a double that is whole is shown without a point."""
+    if isinstance(answer, Refused):
+        return f'R {answer.number}'
+    return 'E ' + ' '.join(str(end) if isinstance(end, int) else f'{end:.17g}' for end in answer)
+
+
 def ends(answer, *given):
-    """Return the line of an answer; a double that is whole is shown without a point."""
+    """Return the line of an answer."""
     try:
-        return 'E ' + ' '.join(str(end) if isinstance(end, int) else f'{end:.17g}' for end in answer(*given))
+        return shown(answer(*given))
     except Refused as refused:
-        return f'R {refused.number}'
+        return shown(refused)
+
+
+def sheet(*words):
+    """Return the line of a sheet."""
+    scenarios = [scenario_of(words[at:at + SCENARIO_WORDS]) for at in range(0, len(words), SCENARIO_WORDS)]
+    try:
+        answers = fusnoch.answer_sheet(scenarios)
+    except Refused as refused:
+        return shown(refused)
+    return ' | '.join([f'S {len(answers)}', *map(shown, answers)])
 
 
 def periods(*words):
@@ -94,6 +114,7 @@ QUESTIONS = {
     'answer_record': lambda text: ends(fusnoch.answer_record, taken(text)),
     'doubles_record': lambda text: ends(fusnoch.answer_record_in_doubles, taken(text)),
     'millionths': lambda *words: ends(fusnoch.millionths, scenario_of(words)),
+    'sheet': sheet,
     'words': lambda text: Refused(int(text)).words,
     'rows': periods,
     'rows_words': lambda *words: fusnoch.rows_words(*map(int, words)),

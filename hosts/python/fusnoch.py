@@ -8,6 +8,7 @@ import ctypes
 import os
 from ctypes import c_char_p, c_double, c_int64, c_size_t, c_uint8, c_uint16, c_uint32, c_void_p
 from dataclasses import dataclass, field
+from itertools import islice
 from typing import NamedTuple, Optional
 
 IDRISS = 1
@@ -15,6 +16,9 @@ BOORE_ATKINSON = 2
 
 # The bytes of a record with all its fields.
 LONGEST_RECORD = 13
+
+# The most scenarios that a sheet has.
+SHEET = 64
 
 # What the number of a refusal stands for.
 WORDS = {
@@ -31,6 +35,7 @@ WORDS = {
     11: 'plain default: a field written with its absent number',
     12: 'page full: lent bytes shorter than the record',
     13: 'distances: the projection distance exceeds the rupture distance',
+    14: 'sheet: more than 64 scenarios',
 }
 
 
@@ -38,7 +43,8 @@ class Refused(Exception):
     """A refusal.
 
     It is raised, so that no one takes a refused scenario for an answered one by leaving a number unread; refusal()
-    gives the number of a scenario to those who would rather ask first.
+    gives the number of a scenario to those who would rather ask first.  In a sheet, where a refused scenario does not
+    stop the others, it stands at the place of its scenario.
     """
 
     def __init__(self, number):
@@ -66,6 +72,16 @@ _FLAGS = {'rupture_distance': 'rupture_present', 'projection_distance': 'project
 
 class _Answer(ctypes.Structure):
     _fields_ = [('number', c_uint8), ('ends', c_int64 * 4)]
+
+
+class _Scenarios(ctypes.Structure):
+    _fields_ = [('places', _Scenario * SHEET)]
+
+
+class _Sheet(ctypes.Structure):
+    _fields_ = [('number', c_uint8), ('count', c_size_t), ('median_low', c_int64 * SHEET),
+                ('median_high', c_int64 * SHEET), ('sigma_low', c_int64 * SHEET), ('sigma_high', c_int64 * SHEET),
+                ('numbers', c_uint8 * SHEET)]
 
 
 class _Doubles(ctypes.Structure):
@@ -101,7 +117,8 @@ def _load():
             ('answer_record_in_doubles', _Doubles, c_char_p, c_size_t),
             ('millionths', _Bounds, _Scenario),
             ('read', _Reading, c_char_p, c_size_t),
-            ('write', _Writing, _Scenario, c_void_p, c_size_t)):
+            ('write', _Writing, _Scenario, c_void_p, c_size_t),
+            ('answer_sheet', _Sheet, c_size_t, _Scenarios)):
         function = getattr(library, f'fusnoch_{name}')
         function.restype, function.argtypes = result, taken
     return library
@@ -259,6 +276,20 @@ def answer_record_in_doubles(data):
     """Return the same in floats that equal the whole numbers."""
     given = _bytes(data)
     return _ends(LIBRARY.fusnoch_answer_record_in_doubles(given, len(given)))
+
+
+def answer_sheet(scenarios):
+    """Return a list of the answers to up to 64 scenarios: for each an Enclosure, or a Refused, which is not raised.
+
+    More than 64 are refused, whatever they are, and that is raised.
+    """
+    # One too many is enough to be refused: no more are taken, and none of them is looked at.
+    given = list(islice(scenarios, SHEET + 1))
+    places = map(c_scenario, given) if len(given) <= SHEET else ()
+    sheet = LIBRARY.fusnoch_answer_sheet(len(given), _Scenarios((_Scenario * SHEET)(*places)))
+    _unless_refused(sheet.number)
+    ends = zip(sheet.median_low, sheet.median_high, sheet.sigma_low, sheet.sigma_high)
+    return [Refused(number) if number else Enclosure(*four) for number, four in zip(sheet.numbers[:sheet.count], ends)]
 
 
 def millionths(scenario):

@@ -6,8 +6,10 @@ ghost use Rattle.record_theory.specs.Outcome.{scenarioIn, readRefusal, readOf, 
 ghost use Rattle.engine_theory.specs.Evaluation.{answerOf, recordAnswerOf, inDoubles};
 ghost use Rattle.engine_theory.specs.Flat.{told};
 ghost use Rattle.millionths_theory.specs.Evaluation.{millionthsOf};
-ghost use Rattle.host_theory.specs.Told.{scenarioFrom, toldPeriods, toldDoubles, toldBounds, toldReading};
-ghost use Rattle.host_theory.specs.Told.{toldWriting};
+ghost use Rattle.sheet_theory.specs.Promise.{SheetPromise};
+ghost use Rattle.sheet_theory.specs.Evaluation.{sheetOf};
+ghost use Rattle.host_theory.specs.Told.{scenarioFrom, scenariosFrom, toldPeriods, toldDoubles, toldBounds};
+ghost use Rattle.host_theory.specs.Told.{toldReading, toldWriting};
 ghost use Rattle.host_theory.specs.Promise.{HostAnswerPromise, HostDoublesPromise, HostBoundsPromise};
 ghost use Rattle.host_theory.specs.Promise.{HostReadingPromise, HostWritingPromise, rowsRefusal, HostRowsPromise};
 use engine_theory::DoublesAnswer;
@@ -19,11 +21,13 @@ use host_theory::HostDoubles;
 use host_theory::HostPeriods;
 use host_theory::HostReading;
 use host_theory::HostScenario;
+use host_theory::HostScenarios;
 use host_theory::HostWriting;
 use millionths_theory::MillionthsAnswer;
 use record_theory::Reading;
 use record_theory::Writing;
 use scenario_theory::RowPeriods;
+use sheet_theory::FlatSheet;
 
 fn tell_doubles(a: DoublesAnswer) -> HostDoubles
     ensures { λ r. ⌜ r ≡ toldDoubles a ⌝ }
@@ -135,6 +139,16 @@ pub extern "C" fn fusnoch_millionths(s: HostScenario) -> HostBounds
             high: 0,
         },
     }
+}
+
+// Answers the first count of the scenarios in one go, each place as fusnoch_answer_fields answers it: one that is turned
+// away stops none of the others. With more than 64 the number is 14, none is answered and the count is 0.
+#[no_mangle]
+pub extern "C" fn fusnoch_answer_sheet(count: usize, scenarios: HostScenarios) -> FlatSheet
+    ensures { λ r. ⌜ r ≡ sheetOf count (scenariosFrom scenarios) ⌝ }
+    ensures { λ r. ⌜ SheetPromise count (scenariosFrom scenarios) r ⌝ }
+{
+    host_sheet::answer_sheet(count, scenarios)
 }
 
 // Reads the record at the front of any bytes.

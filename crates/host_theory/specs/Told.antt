@@ -2,6 +2,7 @@
 -- readings and writings. An enum does not pass, so a refused one is the number with zeros, and an accepted one has the
 -- number 0.
 use mathlib.Core.Bool.{cond}
+use mathlib.Core.List.{List, map}
 use mathlib.Core.Option.{Option, none, some}
 use Prim.Native.Nat.{ℕ}
 use lib.Dec.{eqb}
@@ -19,6 +20,7 @@ use Rattle.engine_theory.specs.declared.DoublesAnswer.the-variants as D
 use Rattle.millionths_theory.specs.declared.MillionthsAnswer.{MillionthsAnswer}
 use Rattle.millionths_theory.specs.declared.MillionthsAnswer.the-variants as M
 use Rattle.host_theory.specs.declared.HostScenario.{HostScenario}
+use Rattle.host_theory.specs.declared.HostScenarios.{HostScenarios}
 use Rattle.host_theory.specs.declared.Flagged.{Flagged}
 use Rattle.host_theory.specs.declared.HostDoubles.{HostDoubles}
 use Rattle.host_theory.specs.declared.HostBounds.{HostBounds}
@@ -76,6 +78,10 @@ noFields = record {
   «projection_present» = 0;
   «projection_distance» = 0;
 }
+
+-- the scenarios of a sheet (W-204)
+abbrev pub scenariosFrom : HostScenarios → List Scenario
+scenariosFrom s = map scenarioFrom (s .places)
 
 -- the double 0, whose bits are all 0
 abbrev pub zeroDouble : Float

@@ -18,6 +18,12 @@ pub struct HostScenario {
     pub projection_distance: u16,
 }
 
+// The scenarios of a sheet, at the places from 0 on. Places from the count on are not read.
+#[repr(C)]
+pub struct HostScenarios {
+    pub places: [HostScenario; 64],
+}
+
 // A distance as C has it: its flag, 0 or 1, and its number, 0 where it is absent.
 pub struct Flagged {
     pub present: u8,

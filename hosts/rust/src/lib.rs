@@ -5,6 +5,9 @@ use std::fmt;
 pub const IDRISS: u8 = 1;
 pub const BOORE_ATKINSON: u8 = 2;
 
+/// The most scenarios that a sheet has.
+pub const SHEET: usize = 64;
+
 /// The distance to the rupture, in 0.01 km.
 #[derive(Clone, Copy, Debug, PartialEq, Eq, PartialOrd, Ord, Hash)]
 pub struct RuptureDistance(pub u16);
@@ -82,11 +85,11 @@ impl fmt::Display for Rows {
     }
 }
 
-/// The number of a refusal, 1 to 13; shown, it is the words for it.
+/// The number of a refusal, 1 to 14; shown, it is the words for it.
 #[derive(Clone, Copy, Debug, PartialEq, Eq)]
 pub struct Refusal(pub u8);
 
-const WORDS: [&str; 14] = [
+const WORDS: [&str; 15] = [
     "not a refusal",
     "model: neither 1 nor 2",
     "magnitude: beyond the model's limits",
@@ -101,6 +104,7 @@ const WORDS: [&str; 14] = [
     "plain default: a field written with its absent number",
     "page full: lent bytes shorter than the record",
     "distances: the projection distance exceeds the rupture distance",
+    "sheet: more than 64 scenarios",
 ];
 
 impl fmt::Display for Refusal {
@@ -113,10 +117,11 @@ impl std::error::Error for Refusal {}
 
 /// The functions of fusnoch.h.
 mod raw {
-    use super::{Enclosure, Millionths, ProjectionDistance, Rows, RuptureDistance};
+    use super::{Enclosure, Millionths, ProjectionDistance, Rows, RuptureDistance, SHEET};
 
     /// A distance whose flag is 0 is absent, whatever its number.
     #[repr(C)]
+    #[derive(Clone, Copy, Default)]
     pub struct Scenario {
         pub model: u8,
         pub rupture_present: u8,
@@ -165,6 +170,38 @@ mod raw {
         pub ends: Enclosure<End>,
     }
 
+    /// Places from the count on are not read.
+    #[repr(C)]
+    pub struct Scenarios {
+        pub places: [Scenario; SHEET],
+    }
+
+    /// The number is the sheet's own; the others are those of its places.
+    #[repr(C)]
+    pub struct Sheet {
+        pub number: u8,
+        pub count: usize,
+        pub median_low: [i64; SHEET],
+        pub median_high: [i64; SHEET],
+        pub sigma_low: [i64; SHEET],
+        pub sigma_high: [i64; SHEET],
+        pub numbers: [u8; SHEET],
+    }
+
+    impl Sheet {
+        pub fn answer_at(&self, place: usize) -> Answer<i64> {
+            Answer {
+                number: self.numbers[place],
+                ends: Enclosure {
+                    median_low: self.median_low[place],
+                    median_high: self.median_high[place],
+                    sigma_low: self.sigma_low[place],
+                    sigma_high: self.sigma_high[place],
+                },
+            }
+        }
+    }
+
     #[repr(C)]
     pub struct Bounds {
         pub number: u8,
@@ -200,6 +237,7 @@ mod raw {
         pub fn fusnoch_millionths(s: Scenario) -> Bounds;
         pub fn fusnoch_read(bytes: *const u8, length: usize) -> Reading;
         pub fn fusnoch_write(s: Scenario, out: *mut u8, length: usize) -> Writing;
+        pub fn fusnoch_answer_sheet(count: usize, scenarios: Scenarios) -> Sheet;
     }
 }
 
@@ -209,6 +247,11 @@ fn unless_refused<T>(number: u8, result: T) -> Result<T, Refusal> {
         0 => Ok(result),
         _ => Err(Refusal(number)),
     }
+}
+
+/// The ends of an answer, or its refusal.
+fn ends<End>(answer: raw::Answer<End>) -> Result<Enclosure<End>, Refusal> {
+    unless_refused(answer.number, answer.ends)
 }
 
 // Below, a pointer and a length always are those of one slice, of which the engine touches no other byte.
@@ -235,24 +278,33 @@ pub fn rows_words(model: u8, period: u16) -> String {
 }
 
 pub fn answer(scenario: &Scenario) -> Result<Enclosure, Refusal> {
-    let answer = unsafe { raw::fusnoch_answer_fields(scenario.into()) };
-    unless_refused(answer.number, answer.ends)
+    ends(unsafe { raw::fusnoch_answer_fields(scenario.into()) })
 }
 
 pub fn answer_record(bytes: &[u8]) -> Result<Enclosure, Refusal> {
-    let answer = unsafe { raw::fusnoch_answer_record(bytes.as_ptr(), bytes.len()) };
-    unless_refused(answer.number, answer.ends)
+    ends(unsafe { raw::fusnoch_answer_record(bytes.as_ptr(), bytes.len()) })
 }
 
 /// The ends as doubles that equal the whole numbers.
 pub fn answer_in_doubles(scenario: &Scenario) -> Result<Enclosure<f64>, Refusal> {
-    let answer = unsafe { raw::fusnoch_answer_fields_in_doubles(scenario.into()) };
-    unless_refused(answer.number, answer.ends)
+    ends(unsafe { raw::fusnoch_answer_fields_in_doubles(scenario.into()) })
 }
 
 pub fn answer_record_in_doubles(bytes: &[u8]) -> Result<Enclosure<f64>, Refusal> {
-    let answer = unsafe { raw::fusnoch_answer_record_in_doubles(bytes.as_ptr(), bytes.len()) };
-    unless_refused(answer.number, answer.ends)
+    ends(unsafe { raw::fusnoch_answer_record_in_doubles(bytes.as_ptr(), bytes.len()) })
+}
+
+/// Answers up to 64 scenarios in one go, each as `answer` does; one that is refused does not stop the others. More than
+/// 64 are refused, whatever they are.
+pub fn answer_sheet(scenarios: &[Scenario]) -> Result<Vec<Result<Enclosure, Refusal>>, Refusal> {
+    // Those for which there is no place are left out: the engine refuses their count.
+    let mut places = [raw::Scenario::default(); SHEET];
+    for (place, scenario) in places.iter_mut().zip(scenarios) {
+        *place = scenario.into();
+    }
+    let sheet = unsafe { raw::fusnoch_answer_sheet(scenarios.len(), raw::Scenarios { places }) };
+    unless_refused(sheet.number, ())?;
+    Ok((0..sheet.count).map(|place| ends(sheet.answer_at(place))).collect())
 }
 
 /// The median in millionths of g: the exact one lies from low to high, and high less low is at most 2 plus

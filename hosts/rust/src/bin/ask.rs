@@ -25,6 +25,9 @@ fn take_distance(word: &str) -> Option<Option<u16>> {
     }
 }
 
+/// How many words a scenario has.
+const SCENARIO_WORDS: usize = 7;
+
 /// A number that does not fit its field is no scenario.
 fn take_scenario(words: &[&str]) -> Option<Scenario> {
     match words {
@@ -39,6 +42,10 @@ fn take_scenario(words: &[&str]) -> Option<Scenario> {
         }),
         _ => None,
     }
+}
+
+fn take_scenarios(words: &[&str]) -> Option<Box<[Scenario]>> {
+    words.chunks(SCENARIO_WORDS).map(take_scenario).collect()
 }
 
 fn show_bytes(bytes: &[u8]) -> String {
@@ -56,6 +63,16 @@ fn show_distance(distance: Option<u16>) -> String {
 fn show_answer<End: Display>(answer: Result<Enclosure<End>, Refusal>) -> String {
     match answer {
         Ok(e) => format!("E {} {} {} {}", e.median_low, e.median_high, e.sigma_low, e.sigma_high),
+        Err(refusal) => format!("R {}", refusal.0),
+    }
+}
+
+fn show_sheet(scenarios: &[Scenario]) -> String {
+    match fusnoch::answer_sheet(scenarios) {
+        Ok(answers) => {
+            let places: String = answers.iter().map(|answer| format!(" | {}", show_answer(*answer))).collect();
+            format!("S {}{}", answers.len(), places)
+        }
         Err(refusal) => format!("R {}", refusal.0),
     }
 }
@@ -136,6 +153,7 @@ fn answer(line: &str) -> Option<String> {
         ("answer", fields) => show_answer(fusnoch::answer(&take_scenario(fields)?)),
         ("doubles", fields) => show_answer(fusnoch::answer_in_doubles(&take_scenario(fields)?)),
         ("millionths", fields) => show_millionths(fusnoch::millionths(&take_scenario(fields)?)),
+        ("sheet", fields) => show_sheet(&take_scenarios(fields)?),
         ("write", [fields @ .., bytes]) => show_writing(&take_scenario(fields)?, take_bytes(bytes)?),
         _ => return None,
     })

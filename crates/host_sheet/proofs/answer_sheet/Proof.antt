@@ -1,0 +1,25 @@
+-- `answer_sheet` meets its contract.
+use mathlib.Core.Path.{_≡_, sym, ap, _∙_}
+use mathlib.Core.List.{List}
+use borrow.Author.Needs.{needs}
+use lib.ListN.{length, length-map}
+use Rattle.scenario_theory.specs.declared.Scenario.{Scenario}
+use Rattle.sheet_theory.specs.Promise.{most}
+use Rattle.sheet_theory.specs.Evaluation.{sheetOf}
+use Rattle.sheet_theory.proofs.Laws.{sheet-promised, sheet-made}
+use Rattle.host_theory.proofs.HostScenario.{the-type}
+use Rattle.host_theory.specs.Told.{scenarioFrom, noFields}
+use Rattle.host_sheet.proofs.answer_sheet.Statement.{statement}
+use Rattle.host_sheet.proofs.answer_sheet.Tie as tie
+
+returns : tie.Need-returns
+returns c =
+    let told = c .before .before .before in
+    let places = told .args .scenarios .places in
+    let long : length places ≡ most = sym (length-map places (the-type .to)) ∙ told .good .1 .0 .1 .1 .0 .1 .0 .1 in
+    sheet-promised _ _ (length-map places scenarioFrom ∙ long)
+    (c .answer-sheet .ensures .0 ∙ ap (sheetOf (told .args .count)) (c .before .scenarios-from .ensures)
+    ∙ sheet-made scenarioFrom (scenarioFrom noFields) (told .args .count) places long)
+
+pub answer-sheet-spec : {M : Type 1} → statement M
+answer-sheet-spec = tie.close (tie.spec (λ c κs. search needs) (λ c κs. search needs) returns)
