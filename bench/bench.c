@@ -18,7 +18,7 @@
 
 #include "peers.h"
 
-enum { SCENARIOS = 1024, PASSES = 16, ROUNDS = 101, RECORD_ROOM = 16 };
+enum { SCENARIOS = 1024, SHEET = 64, PASSES = 16, ROUNDS = 101, RECORD_ROOM = 16 };
 
 /* How far plain C may lie outside of our ends, in units of a natural logarithm. */
 #define PLAIN_MAY_DIFFER 1e-6
@@ -187,6 +187,32 @@ static void run_millionths(const drawn *all, size_t answers)
     consumed += sum;
 }
 
+/* The sheet of the scenarios from the i-th on. */
+static fusnoch_sheet sheet_from(const drawn *all, size_t i)
+{
+    fusnoch_scenarios scenarios;
+    memcpy(scenarios.places, all->scenario + i, sizeof scenarios.places);
+    return fusnoch_answer_sheet(SHEET, scenarios);
+}
+
+static fusnoch_answer at_place(const fusnoch_sheet *sheet, size_t i)
+{
+    return (fusnoch_answer){sheet->numbers[i], sheet->median_low[i], sheet->median_high[i], sheet->sigma_low[i],
+                            sheet->sigma_high[i]};
+}
+
+/* A multiple of the places of a sheet. */
+static void run_sheet(const drawn *all, size_t answers)
+{
+    uint64_t sum = 0;
+    for (size_t i = 0; i < answers; i += SHEET) {
+        fusnoch_sheet sheet = sheet_from(all, i % SCENARIOS);
+        for (size_t place = 0; place < sheet.count; place++)
+            sum += mixed(at_place(&sheet, place));
+    }
+    consumed += sum;
+}
+
 static void run_plain(const drawn *all, size_t answers)
 {
     plain_answer (*answer)(fusnoch_scenario) = all->between ? answer_between_in_plain_c : answer_in_plain_c;
@@ -245,14 +271,15 @@ typedef struct {
     void (*run)(const drawn *all, size_t answers);
 } contestant;
 
-/* The first five are ours; the table of times leaves the last one out.  The peers give logarithms alone. */
-enum { OURS = 5, PLAIN = 5, ARB_TERMS = 6, ARB_TUNED = 7, TIMED = 8, CONTESTANTS = 9 };
+/* The first six are ours; the table of times leaves the last one out.  The peers give logarithms alone. */
+enum { OURS = 6, PLAIN = 6, ARB_TERMS = 7, ARB_TUNED = 8, TIMED = 9, CONTESTANTS = 10 };
 static const contestant CONTESTANT[CONTESTANTS] = {
     {"fields", "ours, from fields", run_fields},
     {"record", "ours, from a record", run_record},
     {"fields_in_doubles", "ours, from fields, in doubles", run_fields_in_doubles},
     {"record_in_doubles", "ours, from a record, in doubles", run_record_in_doubles},
     {"millionths", "ours, from fields, in millionths", run_millionths},
+    {"sheet", "ours, from fields, 64 in one call", run_sheet},
     {"plain", "plain C doubles", run_plain},
     {"arb_terms", "Arb, 64 bits, term by term", run_arb_terms},
     {"arb_tuned", "Arb, 64 bits, tuned", run_arb_tuned},
@@ -324,6 +351,12 @@ static int meets_millionths(const arb_t ball, fusnoch_bounds ours)
     return met;
 }
 
+static int same_in_sheet(const drawn *all, size_t i, fusnoch_answer a)
+{
+    fusnoch_sheet sheet = sheet_from(all, i - i % SHEET);
+    return sheet.number == 0 && sheet.count == SHEET && same(a, at_place(&sheet, i % SHEET));
+}
+
 /* Return what is wrong with the answers to a scenario, or a null pointer. */
 static const char *fault_of(const drawn *all, int i, const answered *a)
 {
@@ -336,6 +369,8 @@ static const char *fault_of(const drawn *all, int i, const answered *a)
     if (!same_in_doubles(a->ours, fusnoch_answer_fields_in_doubles(all->scenario[i]))
         || !same_in_doubles(a->ours, fusnoch_answer_record_in_doubles(record, length)))
         return "our answers in doubles differ";
+    if (!same_in_sheet(all, (size_t)i, a->ours))
+        return "our answer in a sheet differs";
     if (!(outside(a->plain.median, a->ours.median_low, a->ours.median_high) <= PLAIN_MAY_DIFFER)
         || !(outside(a->plain.sigma, a->ours.sigma_low, a->ours.sigma_high) <= PLAIN_MAY_DIFFER))
         return "plain C lies too far outside of our ends";
@@ -445,11 +480,11 @@ static void measure(const drawn all[2], double times[2][TIMED][ROUNDS])
 
 static void print_times(int model, double times[TIMED][ROUNDS])
 {
-    printf("\n%-34s %8s %8s %14s %18s %18s\n", MODEL_NAMES[model - 1], "best", "median", "ours / plain",
+    printf("\n%-35s %8s %8s %14s %18s %18s\n", MODEL_NAMES[model - 1], "best", "median", "ours / plain",
            "Arb terms / ours", "Arb tuned / ours");
     for (int who = 0; who < TIMED; who++) {
         double best = times[who][0];
-        printf("  %-32s %8.1f %8.1f", CONTESTANT[who].title, best, times[who][ROUNDS / 2]);
+        printf("  %-33s %8.1f %8.1f", CONTESTANT[who].title, best, times[who][ROUNDS / 2]);
         if (who < OURS)
             printf(" %14.2f %18.2f %18.2f", best / times[PLAIN][0], times[ARB_TERMS][0] / best,
                    times[ARB_TUNED][0] / best);

@@ -5,7 +5,7 @@ use Prim.Native.Nat.{ℕ, zero, suc, _+_, _-_, _≤_, _<_}
 use native.Mathlib.Omega.{arith}
 use lib.ListN.{length, getD, take, replicate, set, length-map, getD-replicate}
 use lib.ListN.{List·getD-append, List·getD-map, List·getD-eq-default, length-replicate}
-use lib.Seq.{length-take-le, take-suc, append-snoc, set-at, take-at, getD-append-add}
+use lib.Seq.{length-take-le, take-suc, append-snoc, set-at, take-append-le, take-take, getD-append-add}
 use Rattle.sheet_theory.specs.Promise.{most}
 use Rattle.sheet_theory.specs.Evaluation.{filled}
 
@@ -67,7 +67,11 @@ module _ {A B : Type 0} (f : A → B) (z : B) where
   mapped (suc n) [] = refl
   mapped (suc n) (x ∷ xs) = ap (λ (l : List B). f x ∷ l) (mapped n xs)
 
-  -- the first n are f of the first n
-  pub filled-front : (n : ℕ) (xs : List A) → n ≤ length xs → take n (filled f z n xs) ≡ take n (map f xs)
+  -- the first m of what is filled with more are f of the first m
+  pub filled-front : (m n : ℕ) (xs : List A) → m ≤ n → n ≤ length xs → take m (filled f z n xs) ≡ take m (map f xs)
   unfolding filled
-  filled-front n xs there = take-at (map f (take n xs)) (replicate (most - n) z) n (front n xs there) ∙ mapped n xs
+  filled-front m n xs few there =
+      take-append-le m (map f (take n xs)) (replicate (most - n) z) (omega (arith, front n xs there))
+      ∙ sym (mapped m (take n xs))
+      ∙ ap (map f) (take-take m n xs few)
+      ∙ mapped m xs

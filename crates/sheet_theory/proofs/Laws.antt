@@ -2,8 +2,7 @@
 use mathlib.Core.Path.{_≡_, refl, sym, ap, _∙_, subst}
 use mathlib.Core.Bool.{Bool, true, false}
 use mathlib.Core.List.{List, map}
-use Prim.Native.Nat.{ℕ, min, _≤_, _<_}
-use native.Mathlib.Nat.{min-eq-left}
+use Prim.Native.Nat.{ℕ, _≤_, _<_}
 use native.Mathlib.Omega.{arith}
 use borrow.Author.Tests.{ltb-true, ltb-false, lt-ltb, le-ltb}
 use lib.Dec.{ltb}
@@ -107,8 +106,6 @@ sheet-alike count xs ys e = go (ltb most count) refl
         sheet-within count xs h ∙ with-alike 0 count xs ys (e h) ∙ sym (sheet-within count ys h)
 
 -- so a sheet of scenarios that are each made by f needs no more of them made than the first count
-pub sheet-made : {A : Type 0} (f : A → Scenario) (z : Scenario) (count : ℕ) (xs : List A) → length xs ≡ most →
-    sheetOf count (filled f z (min count most) xs) ≡ sheetOf count (map f xs)
-sheet-made f z count xs long =
-    sheet-alike count _ _
-    (λ few. ap (λ (n : ℕ). take count (filled f z n xs)) (min-eq-left few) ∙ filled-front f z count xs (omega (arith, long)))
+pub sheet-made : {A : Type 0} (f : A → Scenario) (z : Scenario) (count n : ℕ) (xs : List A) → n ≤ length xs →
+    (count ≤ most → count ≤ n) → sheetOf count (filled f z n xs) ≡ sheetOf count (map f xs)
+sheet-made f z count n xs there enough = sheet-alike count _ _ (λ h. filled-front f z count n xs (enough h) there)

@@ -4,7 +4,7 @@ use mathlib.Core.List.{List}
 use Prim.Native.Nat.{ℕ, _+_, _≤_, _<_}
 use native.Mathlib.Omega.{arith}
 use lib.Dec.{ltb, nltb→le}
-use lib.IntN.{pos}
+use lib.IntN.{ℤ, pos}
 use lib.ListN.{length, getD, set, replicate}
 use Rattle.toolbox_theory.proofs.Tests.{by-test}
 use Rattle.scenario_theory.specs.declared.Scenario.{Scenario}
@@ -17,33 +17,36 @@ use Rattle.sheet_theory.specs.Promise.{most, noAnswer}
 use Rattle.sheet_theory.specs.Evaluation.{filled, column, answeredOf, sheetWith, sheetOf}
 use Rattle.sheet_theory.proofs.Filling.{filled-next}
 
--- after i turns of n the arrays are those of a sheet of i
+-- a sheet of its parts, in their order
+abbrev pub sheet : ℕ → ℕ → List ℤ → List ℤ → List ℤ → List ℤ → List ℕ → FlatSheet
+sheet number count median-low median-high sigma-low sigma-high numbers =
+    record {
+      number = number;
+      count = count;
+      «median_low» = median-low;
+      «median_high» = median-high;
+      «sigma_low» = sigma-low;
+      «sigma_high» = sigma-high;
+      numbers = numbers;
+    }
+
+-- with n turns to do, and after i of them, it is the sheet of the first i scenarios
 pub record Turned (count : ℕ) (xs : List Scenario) (number n i : ℕ) (r : FlatSheet) : Type 0 where
   pub refusal : number ≡ 14 when ltb most count
   pub turns : n ≡ answeredOf count
   pub room : n ≤ most
   pub within : i ≤ n
-  pub filled : r ≡ sheetWith number i xs
-
--- a sheet of zeros
-abbrev pub blank : ℕ → FlatSheet
-blank number =
-    record {
-      number = number;
-      count = 0;
-      «median_low» = replicate most (pos 0);
-      «median_high» = replicate most (pos 0);
-      «sigma_low» = replicate most (pos 0);
-      «sigma_high» = replicate most (pos 0);
-      numbers = replicate most 0;
-    }
+  pub held : r ≡ sheetWith number i xs
 
 few : (count : ℕ) → answeredOf count ≤ most
 few count = by-test (ltb most count) (λ (k : ℕ). k ≤ most) (λ h. omega arith) (λ h. nltb→le most count h)
 
--- before the first turn
+-- before the first turn all is zeros
 pub first-turn : {count : ℕ} {xs : List Scenario} {number n : ℕ} → number ≡ 14 when ltb most count →
-    n ≡ answeredOf count → Turned count xs number n 0 (blank number)
+    n ≡ answeredOf count →
+    Turned count xs number n 0
+    (sheet number 0 (replicate most (pos 0)) (replicate most (pos 0)) (replicate most (pos 0)) (replicate most (pos 0))
+    (replicate most 0))
 unfolding filled
 first-turn {count} e f =
     record {
@@ -51,21 +54,14 @@ first-turn {count} e f =
       turns = f;
       room = subst (λ (k : ℕ). k ≤ most) (sym f) (few count);
       within = omega arith;
-      filled = refl;
+      held = refl;
     }
 
--- a sheet with an answer at place i
-abbrev pub stored : FlatSheet → ℕ → FlatAnswer → FlatSheet
+-- a sheet with an answer at place i, the count after it
+abbrev stored : FlatSheet → ℕ → FlatAnswer → FlatSheet
 stored r i a =
-    record {
-      number = r .number;
-      count = i + 1;
-      «median_low» = set (r .«median_low») i (a .«median_low»);
-      «median_high» = set (r .«median_high») i (a .«median_high»);
-      «sigma_low» = set (r .«sigma_low») i (a .«sigma_low»);
-      «sigma_high» = set (r .«sigma_high») i (a .«sigma_high»);
-      numbers = set (r .numbers) i (a .number);
-    }
+    sheet (r .number) (i + 1) (set (r .«median_low») i (a .«median_low»)) (set (r .«median_high») i (a .«median_high»))
+    (set (r .«sigma_low») i (a .«sigma_low»)) (set (r .«sigma_high») i (a .«sigma_high»)) (set (r .numbers) i (a .number))
 
 next : (number i : ℕ) (xs : List Scenario) (d : Scenario) → i < most → i < length xs →
     stored (sheetWith number i xs) i (told (answerOf (getD xs i d))) ≡ sheetWith number (i + 1) xs
@@ -82,27 +78,32 @@ next number i xs d room there =
         set (column field i xs) i (field (told (answerOf (getD xs i d)))) ≡ column field (i + 1) xs
     at field = filled-next (λ s. field (told (answerOf s))) (field noAnswer) i xs d room there refl
 
-pub next-turn : {count : ℕ} {xs : List Scenario} {number n i : ℕ} {r t : FlatSheet} (d : Scenario) (a : FlatAnswer) →
-    Turned count xs number n i r → length xs ≡ most → i < n → a ≡ told (answerOf (getD xs i d)) → t ≡ stored r i a →
-    Turned count xs number n (i + 1) t
-next-turn {count} {xs} {number} {n} {i} {r} {t} d a h long more e f =
+-- a turn stores the fields of the next scenario's answer, a
+pub next-turn : {count : ℕ} {xs : List Scenario} {number n i : ℕ} {ml mh sl sh : List ℤ} {ks : List ℕ} {p q s t : ℤ}
+    (d : Scenario) (a : FlatAnswer) → Turned count xs number n i (sheet number i ml mh sl sh ks) → length xs ≡ most →
+    i < n → a ≡ told (answerOf (getD xs i d)) → p ≡ a .«median_low» → q ≡ a .«median_high» → s ≡ a .«sigma_low» →
+    t ≡ a .«sigma_high» →
+    Turned count xs number n (i + 1)
+    (sheet number (i + 1) (set ml i p) (set mh i q) (set sl i s) (set sh i t) (set ks i (a .number)))
+next-turn {xs = xs} {number} {i = i} {ml} {mh} {sl} {sh} {ks} d a h long more e low high sigma-low sigma-high =
     record {
       refusal = h .refusal;
       turns = h .turns;
       room = h .room;
       within = omega arith;
-      filled =
-          f ∙ ap (λ (b : FlatAnswer). stored r i b) e ∙ ap (λ (s : FlatSheet). stored s i (told (answerOf (getD xs i d)))) (h .filled)
-          ∙ next number i xs d (omega (arith, h .room)) (omega (arith, h .room, long));
+      held =
+          rw (low, high, sigma-low, sigma-high, e)
+          (ap (λ (r : FlatSheet). stored r i (told (answerOf (getD xs i d)))) (h .held)
+          ∙ next number i xs d (omega (arith, h .room)) (omega (arith, h .room, long)));
     }
 
 -- after the last turn it is the whole sheet
-pub last-turn : {count : ℕ} {xs : List Scenario} {number n i : ℕ} {r : FlatSheet} → Turned count xs number n i r → n ≤ i →
-    (n ≡ i) × (r ≡ sheetOf count xs)
+pub last-turn : {count : ℕ} {xs : List Scenario} {number n i : ℕ} {r : FlatSheet} → Turned count xs number n i r →
+    n ≤ i → (n ≡ i) × (r ≡ sheetOf count xs)
 unfolding sheetOf
 last-turn {count} {xs} {number} {n} {i} h all =
     let here : n ≡ i = omega (arith, h .within) in (
       here,
-      h .filled ∙ ap (λ (k : ℕ). sheetWith k i xs) (h .refusal)
+      h .held ∙ ap (λ (k : ℕ). sheetWith k i xs) (h .refusal)
           ∙ ap (λ (j : ℕ). sheetWith (14 when ltb most count) j xs) (sym here ∙ h .turns),
     )

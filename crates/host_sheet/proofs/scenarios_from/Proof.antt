@@ -1,102 +1,69 @@
--- `scenarios_from` meets its contract.
-use mathlib.Core.Path.{_≡_, refl, sym, ap, _∙_}
-use Prim.Native.Nat.{ℕ, _+_, _-_, _≤_, _<_}
+-- `scenarios_from` meets its contract. The loop's invariant: the first i are converted.
+use mathlib.Core.Path.{_≡_, refl, ap, _∙_}
+use mathlib.Core.List.{List}
+use Prim.Native.Nat.{ℕ, _-_, _≤_, min}
 use native.Mathlib.Omega.{arith}
 use borrow.Author.Needs.{needs}
 use borrow.Author.Tests.{ltb-true, ltb-false}
 use lib.ListN.{length, set}
+use Rattle.scenario_theory.specs.declared.Scenario.{Scenario}
 use Rattle.sheet_theory.specs.Promise.{most}
 use Rattle.sheet_theory.specs.Evaluation.{filled}
 use Rattle.sheet_theory.proofs.Filling.{filled-next}
+use Rattle.host_theory.specs.declared.HostScenario.{HostScenario}
 use Rattle.host_theory.specs.Told.{scenarioFrom, noFields}
 use Rattle.host_sheet.proofs.scenarios_from.Statement.{statement}
 use Rattle.host_sheet.proofs.scenarios_from.Tie as tie
-use Rattle.host_sheet.proofs.scenarios_from.Reads as reads
-use Rattle.host_sheet.proofs.scenarios_from.Lts as lts
-use Rattle.host_scenario.proofs.scenario_from.Reads as scenario-from-reads
+
+abbrev converted : ℕ → List HostScenario → List Scenario
+converted i places = filled scenarioFrom (scenarioFrom noFields) i places
 
 abbrev Inv-loop : tie.InvT-loop
-Inv-loop n places scenarios₀ i₀ scenarios i =
-    (i ≤ n) × (i ≤ most) × (scenarios ≡ filled scenarioFrom (scenarioFrom noFields) i places)
+Inv-loop n places _ _ scenarios i = (i ≤ n) × (i ≤ most) × (scenarios ≡ converted i places)
 
 abbrev μ-loop : tie.MeasureT-loop
-μ-loop n places scenarios₀ i₀ scenarios i = most - i
+μ-loop n places _ _ scenarios i = most - i
 
--- src/lib.rt:30:5
-loop-holds : tie.Need-loop-holds Inv-loop μ-loop
+begins : tie.Need-loop-holds Inv-loop μ-loop
 unfolding filled
-loop-holds c = (omega arith, omega arith, refl)
+begins c = (omega arith, omega arith, refl)
 
--- src/lib.rt:31:21
-mul-place : tie.Need-mul-place Inv-loop μ-loop
-mul-place c = search needs
-
--- src/lib.rt:31:21
-array-copy-out-place : tie.Need-array-copy-out-place Inv-loop μ-loop
-array-copy-out-place c = search needs
-
--- src/lib.rt:32:24
-scenario-from-requires : tie.Need-scenario-from-requires Inv-loop μ-loop
-scenario-from-requires c κs = search needs
-
--- src/lib.rt:32:9
-mul-scenarios : tie.Need-mul-scenarios Inv-loop μ-loop
-mul-scenarios c = search needs
-
--- src/lib.rt:32:9
-array-set-from-scenarios : tie.Need-array-set-from-scenarios Inv-loop μ-loop
-array-set-from-scenarios c = search needs
-
--- src/lib.rt:33:9
-add-i : tie.Need-add-i Inv-loop μ-loop
-add-i c = search needs
-
--- src/lib.rt:30:5
-loop-less : tie.Need-loop-less Inv-loop μ-loop
-loop-less c = search needs
-
--- src/lib.rt:30:5
-loop-again : tie.Need-loop-again Inv-loop μ-loop
-loop-again c =
-    let k = c .before .before .before .before in
-    let l = k .loop in
+goes-on : tie.Need-loop-again Inv-loop μ-loop
+goes-on c =
+    let begun = c .before .before .before .before in
+    let s = begun .before in
+    let l = begun .loop in
     let room = c .before .before .before .loop-test .taken in
-    let long : length (k .before .args .t2) ≡ most = k .before .good .1 .0 .1 .0 .1 in
-    let more = ltb-true (l .i) (k .before .args .n) (c .before .before .if1 .taken) in (
+    let more = ltb-true (l .i) (s .args .n) (c .before .before .if1 .taken) in
+    let long : length (s .args .t2) ≡ most = s .good .1 .0 .1 .0 .1 in (
       omega (arith, more),
       omega (arith, room),
       ap (λ a. set a (l .i) (c .scenario-from .result)) (l .inv .2)
-          ∙ filled-next scenarioFrom (scenarioFrom noFields) (l .i) _ noFields room
-          (omega (arith, room, long)) (c .scenario-from .ensures),
+          ∙ filled-next scenarioFrom (scenarioFrom noFields) (l .i) _ noFields (omega (arith, room)) (omega (arith, room, long))
+          (c .scenario-from .ensures),
     )
 
--- src/lib.rt:15:1
-returns : tie.Need-returns Inv-loop μ-loop
-returns c =
-    let l = c .before .before .loop in
-    l .inv .2 ∙ ap (λ k. filled scenarioFrom (scenarioFrom noFields) k (c .before .before .before .args .t2)) (omega (arith, l .inv .0, l .inv .1, ltb-false (l .i) (c .before .before .before .args .n) (c .if1 .left)))
+-- at the count, or at the end of the array, whichever comes first
+ends : (n i : ℕ) (places : List HostScenario) {scenarios : List Scenario} → scenarios ≡ converted i places →
+    i ≡ min n most → scenarios ≡ converted (min n most) places
+ends n i places e f = e ∙ ap (λ (k : ℕ). converted k places) f
 
--- src/lib.rt:15:1
-returns-2 : tie.Need-returns-2 Inv-loop μ-loop
-returns-2 c =
+at-the-count : tie.Need-returns Inv-loop μ-loop
+at-the-count c =
+    let n = c .before .before .before .args .n in
+    let l = c .before .before .loop in
+    let past = ltb-false (l .i) n (c .if1 .left) in
+    ends n (l .i) _ (l .inv .2) (omega (arith, l .inv .0, l .inv .1, past))
+
+at-the-end : tie.Need-returns-2 Inv-loop μ-loop
+at-the-end c =
     let l = c .before .loop in
-    let past = c .loop-test .left in
-    l .inv .2 ∙ ap (λ k. filled scenarioFrom (scenarioFrom noFields) k (c .before .before .args .t2)) (omega (arith, l .inv .0, l .inv .1, past))
+    ends (c .before .before .args .n) (l .i) _ (l .inv .2) (omega (arith, l .inv .0, l .inv .1, c .loop-test .left))
 
 pub scenarios-from-spec : {M : Type 1} → statement M
 scenarios-from-spec =
     tie.close
     (tie.spec
-    Inv-loop
-    μ-loop
-    loop-holds
-    mul-place
-    array-copy-out-place
-    scenario-from-requires
-    mul-scenarios
-    array-set-from-scenarios
-    add-i
-    loop-less
-    loop-again
-    returns
-    returns-2)
+    Inv-loop μ-loop begins
+    (λ c. search needs) (λ c. search needs) (λ c κs. search needs) (λ c. search needs) (λ c. search needs)
+    (λ c. search needs) (λ c. search needs) goes-on at-the-count at-the-end)
