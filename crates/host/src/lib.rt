@@ -141,8 +141,8 @@ pub extern "C" fn fusnoch_millionths(s: HostScenario) -> HostBounds
     }
 }
 
-// Answers the first count of the scenarios in one go, each place as fusnoch_answer_fields answers it: one that is turned
-// away stops none of the others. With more than 64 the number is 14, none is answered and the count is 0.
+// Answers the first count of the scenarios in one go, each as fusnoch_answer_fields answers it; one that is turned away
+// does not stop the others. With a count of more than 64 the number is 14, and none is answered.
 #[no_mangle]
 pub extern "C" fn fusnoch_answer_sheet(count: usize, scenarios: HostScenarios) -> FlatSheet
     ensures { λ r. ⌜ r ≡ sheetOf count (scenariosFrom scenarios) ⌝ }

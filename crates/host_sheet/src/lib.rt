@@ -1,6 +1,6 @@
 // A sheet of scenarios as C calls for it.
 ghost use mathlib.Core.Path.{_≡_};
-ghost use Prim.Native.Nat.{_≤_, min};
+ghost use Prim.Native.Nat.{min};
 ghost use Rattle.sheet_theory.specs.Promise.{most, SheetPromise};
 ghost use Rattle.sheet_theory.specs.Evaluation.{filled, sheetOf};
 ghost use Rattle.host_theory.specs.Told.{scenarioFrom, noFields, scenariosFrom};

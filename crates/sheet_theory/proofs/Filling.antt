@@ -1,10 +1,9 @@
 -- An array that is filled from the front, and what it holds at each place: for any f and any kind of elements.
 use mathlib.Core.Path.{_≡_, refl, sym, ap, _∙_}
-use mathlib.Core.List.{List, [], _∷_, _++_, map, map-append}
+use mathlib.Core.List.{List, _∷_, _++_, map, map-append}
 use Prim.Native.Nat.{ℕ, zero, suc, _+_, _-_, _≤_, _<_}
 use native.Mathlib.Omega.{arith}
-use lib.ListN.{length, getD, take, replicate, set, length-map, getD-replicate}
-use lib.ListN.{List·getD-append, List·getD-map, List·getD-eq-default, length-replicate}
+use lib.ListN.{length, getD, take, replicate, set, length-map}
 use lib.Seq.{length-take-le, take-suc, append-snoc, set-at, take-append-le, take-take, getD-append-add}
 use Rattle.sheet_theory.specs.Promise.{most}
 use Rattle.sheet_theory.specs.Evaluation.{filled}
@@ -27,7 +26,8 @@ module _ {A B : Type 0} (f : A → B) (z : B) where
       ∙ set-at p z rest v i (front i xs (omega arith))
       ∙ sym (append-snoc p v rest)
       ∙ ap (λ (y : B). p ++ (y ∷ []) ++ rest) e
-      ∙ ap (λ (l : List B). l ++ rest) (sym (ap (map f) (take-suc xs i d there) ∙ map-append f (take i xs) (getD xs i d ∷ [])))
+      ∙ ap (λ (l : List B). l ++ rest)
+      (sym (ap (map f) (take-suc xs i d there) ∙ map-append f (take i xs) (getD xs i d ∷ [])))
       ∙ ap (λ (k : ℕ). map f (take k xs) ++ replicate (most - k) z) next
 
   at : (n : ℕ) (xs : List A) (rest : List B) (i : ℕ) (d : A) → i < n → n ≤ length xs →

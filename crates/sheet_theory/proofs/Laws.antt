@@ -1,5 +1,5 @@
 -- A sheet as it is computed is as promised.
-use mathlib.Core.Path.{_≡_, refl, sym, ap, _∙_, subst}
+use mathlib.Core.Path.{_≡_, refl, sym, _∙_}
 use mathlib.Core.Bool.{Bool, true, false}
 use mathlib.Core.List.{List, map}
 use Prim.Native.Nat.{ℕ, _≤_, _<_}
@@ -70,7 +70,8 @@ promised count xs long = go (ltb most count) refl
     go : (b : Bool) → ltb most count ≡ b → SheetPromise count xs (sheetOf count xs)
     go true e =
         rw (sheet-over count xs (ltb-true most count e))
-        (with-promise count 14 0 xs (omega arith) (λ h. (refl, refl)) (λ h. absurd (omega (arith, ltb-true most count e))))
+        (with-promise count 14 0 xs (omega arith) (λ h. (refl, refl))
+        (λ h. absurd (omega (arith, ltb-true most count e))))
     go false e =
         rw (sheet-within count xs (ltb-false most count e))
         (with-promise count 0 count xs (omega (arith, long, ltb-false most count e))

@@ -61,7 +61,8 @@ first-turn {count} e f =
 abbrev stored : FlatSheet → ℕ → FlatAnswer → FlatSheet
 stored r i a =
     sheet (r .number) (i + 1) (set (r .«median_low») i (a .«median_low»)) (set (r .«median_high») i (a .«median_high»))
-    (set (r .«sigma_low») i (a .«sigma_low»)) (set (r .«sigma_high») i (a .«sigma_high»)) (set (r .numbers) i (a .number))
+    (set (r .«sigma_low») i (a .«sigma_low»)) (set (r .«sigma_high») i (a .«sigma_high»))
+    (set (r .numbers) i (a .number))
 
 next : (number i : ℕ) (xs : List Scenario) (d : Scenario) → i < most → i < length xs →
     stored (sheetWith number i xs) i (told (answerOf (getD xs i d))) ≡ sheetWith number (i + 1) xs

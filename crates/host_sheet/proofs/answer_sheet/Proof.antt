@@ -1,10 +1,8 @@
 -- `answer_sheet` meets its contract.
 use mathlib.Core.Path.{_≡_, sym, ap, _∙_}
-use mathlib.Core.List.{List}
 use native.Mathlib.Omega.{arith}
 use borrow.Author.Needs.{needs}
 use lib.ListN.{length, length-map}
-use Rattle.scenario_theory.specs.declared.Scenario.{Scenario}
 use Rattle.sheet_theory.specs.Promise.{most}
 use Rattle.sheet_theory.specs.Evaluation.{sheetOf}
 use Rattle.sheet_theory.proofs.Laws.{sheet-promised, sheet-made}
@@ -20,7 +18,8 @@ returns c =
     let long : length places ≡ most = sym (length-map places (the-type .to)) ∙ told .good .1 .0 .1 .1 .0 .1 .0 .1 in
     sheet-promised _ _ (length-map places scenarioFrom ∙ long)
     (c .answer-sheet .ensures .0 ∙ ap (sheetOf (told .args .count)) (c .before .scenarios-from .ensures)
-    ∙ sheet-made scenarioFrom (scenarioFrom noFields) (told .args .count) _ places (omega (arith, long)) (λ h. omega arith))
+    ∙ sheet-made scenarioFrom (scenarioFrom noFields) (told .args .count) _ places (omega (arith, long))
+    (λ h. omega arith))
 
 pub answer-sheet-spec : {M : Type 1} → statement M
 answer-sheet-spec = tie.close (tie.spec (λ c κs. search needs) (λ c κs. search needs) returns)

@@ -39,8 +39,8 @@ goes-on c =
       omega (arith, more),
       omega (arith, room),
       ap (λ a. set a (l .i) (c .scenario-from .result)) (l .inv .2)
-          ∙ filled-next scenarioFrom (scenarioFrom noFields) (l .i) _ noFields (omega (arith, room)) (omega (arith, room, long))
-          (c .scenario-from .ensures),
+          ∙ filled-next scenarioFrom (scenarioFrom noFields) (l .i) _ noFields (omega (arith, room))
+          (omega (arith, room, long)) (c .scenario-from .ensures),
     )
 
 -- at the count, or at the end of the array, whichever comes first

@@ -47,10 +47,10 @@ goes-on c =
 ends : tie.Need-returns Inv-loop μ-loop
 ends c =
     let l = c .before .loop in
-    let number = c .before .before .if1 .number in
+    let k = c .before .before .if1 .number in
     let end = last-turn (l .inv) (c .loop-test .left) in
     sheet-promised _ _ (c .before .before .before .good .1 .0 .1 .0 .1)
-    (ap (λ (n : ℕ). sheet number n (l .median-low) (l .median-high) (l .sigma-low) (l .sigma-high) (l .numbers)) (end .0)
+    (ap (λ (n : ℕ). sheet k n (l .median-low) (l .median-high) (l .sigma-low) (l .sigma-high) (l .numbers)) (end .0)
     ∙ end .1)
 
 pub answer-sheet-spec : {M : Type 1} → statement M
