@@ -1,5 +1,6 @@
 -- The promise of the millionths that C is told.
 use mathlib.Core.Path.{_≡_, refl, ap}
+use mathlib.Core.List.{[]}
 use Prim.Native.Nat.{ℕ}
 use native.Mathlib.Omega.{arith}
 use lib.ListN.{length, getD}
