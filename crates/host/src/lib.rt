@@ -16,6 +16,7 @@ use engine_theory::DoublesAnswer;
 use engine_theory::FlatAnswer;
 use host_scenario::fields_of;
 use host_scenario::scenario_from;
+use host_sheet::scenarios_from;
 use host_theory::HostBounds;
 use host_theory::HostDoubles;
 use host_theory::HostPeriods;
@@ -148,7 +149,8 @@ pub extern "C" fn fusnoch_answer_sheet(count: usize, scenarios: HostScenarios) -
     ensures { λ r. ⌜ r ≡ sheetOf count (scenariosFrom scenarios) ⌝ }
     ensures { λ r. ⌜ SheetPromise count (scenariosFrom scenarios) r ⌝ }
 {
-    host_sheet::answer_sheet(count, scenarios)
+    let places = scenarios.places;
+    sheet::answer_sheet(count, scenarios_from(count, places))
 }
 
 // Reads the record at the front of any bytes.

@@ -1,19 +1,17 @@
-// A sheet of scenarios as C calls for it.
+// A sheet's scenarios as C has them.
 ghost use mathlib.Core.Path.{_≡_};
 ghost use Prim.Native.Nat.{min};
-ghost use Rattle.sheet_theory.specs.Promise.{most, SheetPromise};
-ghost use Rattle.sheet_theory.specs.Evaluation.{filled, sheetOf};
-ghost use Rattle.host_theory.specs.Told.{scenarioFrom, noFields, scenariosFrom};
+ghost use Rattle.sheet_theory.specs.Promise.{most};
+ghost use Rattle.sheet_theory.specs.Evaluation.{filled};
+ghost use Rattle.host_theory.specs.Told.{scenarioFrom, noFields};
 use host_scenario::scenario_from;
 use host_theory::HostScenario;
-use host_theory::HostScenarios;
 use scenario_theory::Projection;
 use scenario_theory::Rupture;
 use scenario_theory::Scenario;
-use sheet_theory::FlatSheet;
 
 // The scenarios at the first n places; the others are not read.
-fn scenarios_from(n: usize, places: [HostScenario; 64]) -> [Scenario; 64]
+pub fn scenarios_from(n: usize, places: [HostScenario; 64]) -> [Scenario; 64]
     ensures { λ r. ⌜ r ≡ filled scenarioFrom (scenarioFrom noFields) (min n most) places ⌝ }
 {
     let none = Scenario {
@@ -33,13 +31,4 @@ fn scenarios_from(n: usize, places: [HostScenario; 64]) -> [Scenario; 64]
         i += 1;
     }
     scenarios
-}
-
-// Answers the first count of the scenarios.
-pub fn answer_sheet(count: usize, scenarios: HostScenarios) -> FlatSheet
-    ensures { λ r. ⌜ r ≡ sheetOf count (scenariosFrom scenarios) ⌝ }
-    ensures { λ r. ⌜ SheetPromise count (scenariosFrom scenarios) r ⌝ }
-{
-    let places = scenarios.places;
-    sheet::answer_sheet(count, scenarios_from(count, places))
 }

@@ -1,4 +1,4 @@
--- `answer_sheet` meets its contract.
+-- `fusnoch_answer_sheet` meets its contract.
 use mathlib.Core.Path.{_≡_, sym, ap, _∙_}
 use native.Mathlib.Omega.{arith}
 use borrow.Author.Needs.{needs}
@@ -8,8 +8,8 @@ use Rattle.sheet_theory.specs.Evaluation.{sheetOf}
 use Rattle.sheet_theory.proofs.Laws.{sheet-promised, sheet-made}
 use Rattle.host_theory.proofs.HostScenario.{the-type}
 use Rattle.host_theory.specs.Told.{scenarioFrom, noFields}
-use Rattle.host_sheet.proofs.answer_sheet.Statement.{statement}
-use Rattle.host_sheet.proofs.answer_sheet.Tie as tie
+use Rattle.host.proofs.fusnoch_answer_sheet.Statement.{statement}
+use Rattle.host.proofs.fusnoch_answer_sheet.Tie as tie
 
 returns : tie.Need-returns
 returns c =
@@ -21,5 +21,5 @@ returns c =
     ∙ sheet-made scenarioFrom (scenarioFrom noFields) (told .args .count) _ places (omega (arith, long))
     (λ h. omega arith))
 
-pub answer-sheet-spec : {M : Type 1} → statement M
-answer-sheet-spec = tie.close (tie.spec (λ c κs. search needs) (λ c κs. search needs) returns)
+pub fusnoch-answer-sheet-spec : {M : Type 1} → statement M
+fusnoch-answer-sheet-spec = tie.close (tie.spec (λ c κs. search needs) (λ c κs. search needs) returns)
