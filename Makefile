@@ -64,9 +64,9 @@ definitions: need_test
 	cmp $(SAMPLE).stdin crates/enclosures/stdin
 	cmp $(SAMPLE).stdout crates/enclosures/stdout
 
-# The tests of the program come first, as they need no library, and run while the libraries are built.
-outside: test_enclosures test_program_failures test_logarithm test_models test_records test_answers test_millionths
-outside: test_kinds test_sheets test_hosts
+# The longest first, and with it the hosts' library, which most of the others wait for.
+outside: test_enclosures test_hosts test_millionths test_records test_sheets test_answers test_kinds test_models
+outside: test_logarithm test_program_failures
 
 test_logarithm test_models: test_%: probe
 	python3 tests/$@.py $(PROBE)

@@ -201,7 +201,7 @@ static fusnoch_answer at_place(const fusnoch_sheet *sheet, size_t i)
                             sheet->sigma_high[i]};
 }
 
-/* A multiple of the places of a sheet. */
+/* Answers are a multiple of SHEET. */
 static void run_sheet(const drawn *all, size_t answers)
 {
     uint64_t sum = 0;

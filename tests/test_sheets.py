@@ -7,12 +7,15 @@ An ASK answers the question `answer SCENARIO` of test_answers.py, and
     sheet SCENARIO ..       -> `S` and the count, then for each place ` | E` and four ends or ` | R` and its number;
                                `R 14` for more than 64 scenarios
 
-C_ASK answers two questions more.  The first is about the struct of its interface, which is printed as it is: the
+C_ASK answers three questions more.  The first is about the struct of its interface, which is printed as it is: the
 sheet's own number, the count and the 64 places.  There are always 64 scenarios, and those past the count are not read.
-The second goes through the wrapper with a null pointer, which counts as no scenarios unless the count is above 64.
+The second leaves the places past the scenarios undefined.  The third goes through the wrapper with a null pointer,
+which counts as no scenarios unless the count is above 64.
 
     sheet_places COUNT SCENARIO ..
                             -> NUMBER COUNT, then 64 times ` | ` and the place's number and four ends
+    sheet_unfilled SCENARIO ..
+                            -> as sheet, with nothing at the other places, of up to 64
     sheet_null COUNT        -> NUMBER COUNT, and more after it if a place does not hold zeros
 
 Each place has to be what the same host answers to that scenario alone; and these answers are checked against documents
@@ -69,32 +72,32 @@ SHARES = (1, 0, 0.5)
 # The places at which each refusal has to be met.
 PLACES = ('first', 'middle', 'last')
 
-# The earthquakes of the page: V_S30 520.0 m/s, and 1.200 s, between the rows of both models.
+# The earthquakes of the page: V_S30 520.0 m/s, and 1.000 s.
 EARTHQUAKES = (
-    Scenario(1, 700, 1044, 5200, 0, 1200, 1000),
-    Scenario(2, 700, 1044, 5200, 0, 1200, 1000),
-    Scenario(1, 650, 2200, 5200, 2, 1200, 1850),
-    Scenario(2, 650, 2200, 5200, 2, 1200, 1850),
-    Scenario(1, 800, 18000, 5200, 0, 1200, None),
-    Scenario(2, 800, None, 5200, 0, 1200, 18000),
-    Scenario(1, 600, 1200, 5200, 1, 1200, 1500),
-    Scenario(2, 600, 1200, 5200, 1, 1200, None),
+    Scenario(1, 700, 1044, 5200, 0, 1000, 1000),
+    Scenario(2, 700, 1044, 5200, 0, 1000, 1000),
+    Scenario(1, 650, 2200, 5200, 2, 1000, 1850),
+    Scenario(2, 650, 2200, 5200, 2, 1000, 1850),
+    Scenario(1, 800, 18000, 5200, 0, 1000, None),
+    Scenario(2, 800, None, 5200, 0, 1000, 18000),
+    Scenario(1, 600, 1200, 5200, 1, 1000, 1500),
+    Scenario(2, 600, 1200, 5200, 1, 1000, None),
 )
 # What is printed of them, typed in by hand; {} stands for four ends.
 COLUMNS = '  median low  median high  sigma low sigma high'
 PAGE = f"""\
-A page of earthquakes for one bridge, 5 percent damped: V_S30 520.0 m/s, period 1.200 s
+A page of earthquakes for one bridge, 5 percent damped: V_S30 520.0 m/s, period 1.000 s
 median, sigma: ends in units of 10^-9; they enclose the natural logarithm of the median in g, and sigma
 
-place | model                   |    M | rupture km | project km | mechanism   | {COLUMNS}
-    1 | Idriss 2014             | 7.00 |      10.44 |      10.00 | strike-slip | {{}}
-    2 | Boore and Atkinson 2008 | 7.00 |      10.44 |      10.00 | strike-slip | {{}}
-    3 | Idriss 2014             | 6.50 |      22.00 |      18.50 | reverse     | {{}}
-    4 | Boore and Atkinson 2008 | 6.50 |      22.00 |      18.50 | reverse     | {{}}
-    5 | Idriss 2014             | 8.00 |     180.00 |          - | strike-slip | refusal 2, {WORDS[1]}
-    6 | Boore and Atkinson 2008 | 8.00 |          - |     180.00 | strike-slip | {{}}
-    7 | Idriss 2014             | 6.00 |      12.00 |      15.00 | normal      | refusal 13, {WORDS[12]}
-    8 | Boore and Atkinson 2008 | 6.00 |      12.00 |          - | normal      | refusal 9, {WORDS[8]}
+place | model                   |    M | rupture km | projection km | mechanism   | {COLUMNS}
+    1 | Idriss 2014             | 7.00 |      10.44 |         10.00 | strike-slip | {{}}
+    2 | Boore and Atkinson 2008 | 7.00 |      10.44 |         10.00 | strike-slip | {{}}
+    3 | Idriss 2014             | 6.50 |      22.00 |         18.50 | reverse     | {{}}
+    4 | Boore and Atkinson 2008 | 6.50 |      22.00 |         18.50 | reverse     | {{}}
+    5 | Idriss 2014             | 8.00 |     180.00 |             - | strike-slip | refusal 2, {WORDS[1]}
+    6 | Boore and Atkinson 2008 | 8.00 |          - |        180.00 | strike-slip | {{}}
+    7 | Idriss 2014             | 6.00 |      12.00 |         15.00 | normal      | refusal 13, {WORDS[12]}
+    8 | Boore and Atkinson 2008 | 6.00 |      12.00 |             - | normal      | refusal 9, {WORDS[8]}
 
 8 scenarios, 5 answered
 """
@@ -112,7 +115,8 @@ class Question(NamedTuple):
     def line(self):
         """Return the line for a host."""
         words = chain.from_iterable(self.scenarios)
-        return text(self.name, *words) if self.name == 'sheet' else text(self.name, self.count, *words)
+        counted = () if self.name in ('sheet', 'sheet_unfilled') else (self.count,)
+        return text(self.name, *counted, *words)
 
 
 def sheet(scenarios):
@@ -253,7 +257,9 @@ def few_for_c(rng, pool):
     """Return questions for C alone that are asked under valgrind, too."""
     places = [Question('sheet_places', count, tuple(draw(rng, pool, SHEET, share)))
               for count, share in product(FEW_COUNTS, SHARES)]
-    return places + [Question('sheet_null', count) for count in FEW_COUNTS]
+    unfilled = [Question('sheet_unfilled', count, tuple(draw(rng, pool, count, share)))
+                for count, share in product(FEW, SHARES)]
+    return places + unfilled + [Question('sheet_null', count) for count in FEW_COUNTS]
 
 
 def all_for_c(rng, pool):
@@ -295,7 +301,7 @@ def due_line(question, single):
     if count > SHEET:
         return f'R {TOO_MANY}' if name == 'sheet' else ' | '.join([f'{TOO_MANY} 0', *[ZEROS] * SHEET])
     lines = [single.get(one, 'nothing') for one in scenarios[:count]]
-    if name == 'sheet':
+    if name in ('sheet', 'sheet_unfilled'):
         return ' | '.join([f'S {count}', *lines])
     return ' | '.join([f'0 {count}', *map(in_struct, lines), *[ZEROS] * (SHEET - count)])
 
@@ -417,6 +423,7 @@ def wanted_kinds():
               *product(['neighbours apart in'], Scenario._fields)}
     wanted.update(('sheet', count) for count in (*up_to, *LONGER, LONGEST))
     wanted.update(product(('sheet_places', 'sheet_null'), (*up_to, *MORE, *FEW_COUNTS)))
+    wanted.update(product(['sheet_unfilled'], FEW))
     wanted.update(product((*PLACES, 'all alike'), numbers))
     wanted.update(product(PLACES, REFUSALS, ['among'], [0]))
     wanted.update(product(PLACES, [0], ['among'], REFUSALS))
@@ -429,7 +436,7 @@ def wanted_kinds():
 def wanted_under_valgrind():
     """Return the hosts, questions and counts that valgrind has to have seen."""
     alone = product(['C'], ('sheet_places', 'sheet_null'), FEW_COUNTS)
-    return {*product(WATCHED, ['sheet'], (*FEW, *FEW_MORE)), *alone}
+    return {*product(WATCHED, ['sheet'], (*FEW, *FEW_MORE)), *alone, *product(['C'], ['sheet_unfilled'], FEW)}
 
 
 def seen_faults(asked, few):
@@ -656,8 +663,8 @@ def places_alone(rng, asked):
 
 def python_faults(asked, in_structs, fusnoch):
     """Yield the faults of Python's wrapper where no types see to the caller's mistakes, and of the struct."""
-    if (type(fusnoch.SHEET), fusnoch.SHEET) != (int, SHEET):
-        yield f'SHEET is {fusnoch.SHEET!r}'
+    if (type(fusnoch.SHEET_MOST), fusnoch.SHEET_MOST) != (int, SHEET):
+        yield f'SHEET_MOST is {fusnoch.SHEET_MOST!r}'
     for question in asked:
         if question.count <= SHEET:
             yield from returned_faults(fusnoch, question.scenarios)

@@ -23,6 +23,8 @@
    sheet_places COUNT SCENARIO ..
                           NUMBER COUNT and at each of the 64 places | NUMBER and four ends, as fusnoch_answer_sheet
                           hands them back; just 64 scenarios, whatever the count
+   sheet_unfilled SCENARIO ..
+                          as sheet, by fusnoch_answer_sheet, with the places past the scenarios left undefined
    sheet_null COUNT       NUMBER COUNT by the wrapper, with a null pointer
    What should hold zeros, and does not, is said: with ends, bounds or periods where a result is refused, with more
    where a sheet has more than its count. */
@@ -193,21 +195,11 @@ static void print_answer(fusnoch_answer a)
     puts("");
 }
 
-/* What a sheet has at a place. */
-static fusnoch_answer answer_at(const fusnoch_sheet *sheet, size_t place)
-{
-    return (fusnoch_answer){.number = sheet->numbers[place],
-                            .median_low = sheet->median_low[place],
-                            .median_high = sheet->median_high[place],
-                            .sigma_low = sheet->sigma_low[place],
-                            .sigma_high = sheet->sigma_high[place]};
-}
-
 /* Whether a sheet has anything but zeros from a place on. */
 static int has_more(const fusnoch_sheet *sheet, size_t place)
 {
-    for (; place < GROUND_MOTION_SHEET; place++)
-        if (sheet->numbers[place] != 0 || has_ends(answer_at(sheet, place)))
+    for (; place < GROUND_MOTION_SHEET_MOST; place++)
+        if (sheet->numbers[place] != 0 || has_ends(ground_motion_answer_at(sheet, place)))
             return 1;
     return 0;
 }
@@ -219,9 +211,9 @@ static void print_sheet(fusnoch_sheet sheet)
         return;
     }
     printf("S %zu", sheet.count);
-    for (size_t i = 0; i < sheet.count && i < GROUND_MOTION_SHEET; i++) {
+    for (size_t i = 0; i < sheet.count && i < GROUND_MOTION_SHEET_MOST; i++) {
         printf(" | ");
-        print_place(answer_at(&sheet, i));
+        print_place(ground_motion_answer_at(&sheet, i));
     }
     puts(has_more(&sheet, sheet.count) ? " with more" : "");
 }
@@ -229,9 +221,9 @@ static void print_sheet(fusnoch_sheet sheet)
 static void print_places(fusnoch_sheet sheet)
 {
     printf("%u %zu", sheet.number, sheet.count);
-    for (size_t i = 0; i < GROUND_MOTION_SHEET; i++) {
+    for (size_t i = 0; i < GROUND_MOTION_SHEET_MOST; i++) {
         printf(" | %u", sheet.numbers[i]);
-        print_ends(answer_at(&sheet, i));
+        print_ends(ground_motion_answer_at(&sheet, i));
     }
     puts("");
 }
@@ -435,11 +427,26 @@ static int answer_sheet_places(char *const *word, size_t words)
     fusnoch_scenarios s;
     size_t count;
 
-    if (words != 1 + GROUND_MOTION_SHEET * SCENARIO_WORDS || !take_size(word[0], &count)
-        || !take_places(word + 1, GROUND_MOTION_SHEET, s.places))
+    if (words != 1 + GROUND_MOTION_SHEET_MOST * SCENARIO_WORDS || !take_size(word[0], &count)
+        || !take_places(word + 1, GROUND_MOTION_SHEET_MOST, s.places))
         return 0;
     print_places(fusnoch_answer_sheet(count, s));
     return 1;
+}
+
+/* Answers a sheet of all words, whose other places are left as the memory has them, so that valgrind sees whether one
+   is looked at; 0 where they are no scenarios, or too many. */
+static int answer_sheet_unfilled(char *const *word, size_t words)
+{
+    fusnoch_scenarios *s = malloc(sizeof *s);
+    size_t count = words / SCENARIO_WORDS;
+    int known = s != NULL && words % SCENARIO_WORDS == 0 && count <= GROUND_MOTION_SHEET_MOST
+                && take_places(word, count, s->places);
+
+    if (known)
+        print_sheet(fusnoch_answer_sheet(count, *s));
+    free(s);
+    return known;
 }
 
 /* Answers a question with few words; 0 where it is none.  How many they are says of what kind they are. */
@@ -481,6 +488,8 @@ static int answer(const Words *line)
         return answer_sheet(word, words);
     if (strcmp(name, "sheet_places") == 0)
         return answer_sheet_places(word, words);
+    if (strcmp(name, "sheet_unfilled") == 0)
+        return answer_sheet_unfilled(word, words);
     return answer_words(name, word, words);
 }
 

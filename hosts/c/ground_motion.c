@@ -97,12 +97,23 @@ fusnoch_sheet ground_motion_answer_sheet(const fusnoch_scenario *scenarios, size
 {
     fusnoch_scenarios s = {.places = {{.model = 0}}};
 
-    if (count <= GROUND_MOTION_SHEET) {
+    if (count <= GROUND_MOTION_SHEET_MOST) {
         count = present(scenarios, count);
         for (size_t i = 0; i < count; i++)
             s.places[i] = scenarios[i];
     }
     return fusnoch_answer_sheet(count, s);
+}
+
+fusnoch_answer ground_motion_answer_at(const fusnoch_sheet *sheet, size_t place)
+{
+    if (place >= GROUND_MOTION_SHEET_MOST)
+        return (fusnoch_answer){.number = 0};
+    return (fusnoch_answer){.number = sheet->numbers[place],
+                            .median_low = sheet->median_low[place],
+                            .median_high = sheet->median_high[place],
+                            .sigma_low = sheet->sigma_low[place],
+                            .sigma_high = sheet->sigma_high[place]};
 }
 
 fusnoch_writing ground_motion_write(fusnoch_scenario scenario, uint8_t *lent, size_t length)

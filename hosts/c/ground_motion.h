@@ -63,12 +63,16 @@ fusnoch_doubles ground_motion_answer_record_in_doubles(const uint8_t *bytes, siz
 ground_motion_reading ground_motion_read(const uint8_t *bytes, size_t length);
 
 /* The most scenarios that a sheet has. */
-enum { GROUND_MOTION_SHEET = 64 };
+enum { GROUND_MOTION_SHEET_MOST = 64 };
 
 /* Answers so many scenarios in one go, each at its place as fusnoch_answer_fields answers it; one that is refused does
-   not stop the others.  The count is looked at first: with more than GROUND_MOTION_SHEET the sheet's own number is 14,
-   and nothing is read. */
+   not stop the others.  The count is looked at first: with more than GROUND_MOTION_SHEET_MOST the sheet's own number is
+   14, and nothing is read. */
 fusnoch_sheet ground_motion_answer_sheet(const fusnoch_scenario *scenarios, size_t count);
+
+/* The answer at a place of a sheet, counted from 0.  Go by the sheet's count: a place from there on has the number 0,
+   too, with zeros, and is no answer. */
+fusnoch_answer ground_motion_answer_at(const fusnoch_sheet *sheet, size_t place);
 
 /* Puts the record at the front of the lent bytes; refused, it leaves them as they are. */
 fusnoch_writing ground_motion_write(fusnoch_scenario scenario, uint8_t *lent, size_t length);

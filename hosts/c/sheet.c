@@ -6,12 +6,12 @@
 #include "ground_motion.h"
 
 /* The same throughout the page: V_S30 in 0.1 m/s, and the period in 0.001 s. */
-enum { VELOCITY = 5200, PERIOD = 1200 };
+enum { VELOCITY = 5200, PERIOD = 1000 };
 
 typedef ground_motion_rupture_distance Rupture;
 typedef ground_motion_projection_distance Projection;
 
-/* The page: magnitudes in 0.01; an absent distance is NULL. */
+/* The page: magnitudes in 0.01, distances in 0.01 km; an absent distance is NULL. */
 static const struct {
     uint8_t model;
     uint16_t magnitude;
@@ -54,8 +54,8 @@ static void print_heading(void)
     printf("A page of earthquakes for one bridge, 5 percent damped: V_S30 %d.%d m/s, period %d.%03d s\n",
            VELOCITY / 10, VELOCITY % 10, PERIOD / 1000, PERIOD % 1000);
     puts("median, sigma: ends in units of 10^-9; they enclose the natural logarithm of the median in g, and sigma\n");
-    printf("%5s | %-23s | %4s | %10s | %10s | %-11s | %12s %12s %10s %10s\n", "place", "model", "M", "rupture km",
-           "project km", "mechanism", "median low", "median high", "sigma low", "sigma high");
+    printf("%5s | %-23s | %4s | %10s | %13s | %-11s | %12s %12s %10s %10s\n", "place", "model", "M", "rupture km",
+           "projection km", "mechanism", "median low", "median high", "sigma low", "sigma high");
 }
 
 /* A distance in km, or - where it is absent. */
@@ -73,20 +73,18 @@ static void print_scenario(size_t place, fusnoch_scenario s)
 
     name_distance(rupture, s.rupture_present, s.rupture_distance);
     name_distance(projection, s.projection_present, s.projection_distance);
-    printf("%5zu | %-23s | %u.%02u | %10s | %10s | %-11s | ", place, MODELS[s.model], s.magnitude / 100,
+    printf("%5zu | %-23s | %u.%02u | %10s | %13s | %-11s | ", place, MODELS[s.model], s.magnitude / 100,
            s.magnitude % 100, rupture, projection, MECHANISMS[s.mechanism]);
 }
 
-/* The ends at a place, or the refusal. */
-static void print_answer(const fusnoch_sheet *sheet, size_t place)
+/* The ends of an answer, or the refusal. */
+static void print_answer(fusnoch_answer a)
 {
-    uint8_t number = sheet->numbers[place];
-
-    if (number != 0)
-        printf("refusal %u, %s\n", number, ground_motion_words(number));
+    if (a.number != 0)
+        printf("refusal %u, %s\n", a.number, ground_motion_words(a.number));
     else
-        printf("%12" PRId64 " %12" PRId64 " %10" PRId64 " %10" PRId64 "\n", sheet->median_low[place],
-               sheet->median_high[place], sheet->sigma_low[place], sheet->sigma_high[place]);
+        printf("%12" PRId64 " %12" PRId64 " %10" PRId64 " %10" PRId64 "\n", a.median_low, a.median_high, a.sigma_low,
+               a.sigma_high);
 }
 
 int main(void)
@@ -98,10 +96,14 @@ int main(void)
     for (size_t i = 0; i < LINES; i++)
         page[i] = scenario_in(i);
     sheet = ground_motion_answer_sheet(page, LINES);
+    if (sheet.number != 0) {
+        fprintf(stderr, "refusal %u, %s\n", sheet.number, ground_motion_words(sheet.number));
+        return 1;
+    }
     print_heading();
     for (size_t i = 0; i < sheet.count; i++) {
         print_scenario(i + 1, page[i]);
-        print_answer(&sheet, i);
+        print_answer(ground_motion_answer_at(&sheet, i));
         answered += sheet.numbers[i] == 0;
     }
     printf("\n%zu scenarios, %zu answered\n", sheet.count, answered);

@@ -18,7 +18,7 @@ BOORE_ATKINSON = 2
 LONGEST_RECORD = 13
 
 # The most scenarios that a sheet has.
-SHEET = 64
+SHEET_MOST = 64
 
 # What the number of a refusal stands for.
 WORDS = {
@@ -75,13 +75,14 @@ class _Answer(ctypes.Structure):
 
 
 class _Scenarios(ctypes.Structure):
-    _fields_ = [('places', _Scenario * SHEET)]
+    _fields_ = [('places', _Scenario * SHEET_MOST)]
 
 
 class _Sheet(ctypes.Structure):
-    _fields_ = [('number', c_uint8), ('count', c_size_t), ('median_low', c_int64 * SHEET),
-                ('median_high', c_int64 * SHEET), ('sigma_low', c_int64 * SHEET), ('sigma_high', c_int64 * SHEET),
-                ('numbers', c_uint8 * SHEET)]
+    _fields_ = [('number', c_uint8), ('count', c_size_t),
+                ('median_low', c_int64 * SHEET_MOST), ('median_high', c_int64 * SHEET_MOST),
+                ('sigma_low', c_int64 * SHEET_MOST), ('sigma_high', c_int64 * SHEET_MOST),
+                ('numbers', c_uint8 * SHEET_MOST)]
 
 
 class _Doubles(ctypes.Structure):
@@ -279,14 +280,15 @@ def answer_record_in_doubles(data):
 
 
 def answer_sheet(scenarios):
-    """Return a list of the answers to up to 64 scenarios: for each an Enclosure, or a Refused, which is not raised.
+    """Return a list of the answers to up to 64 scenarios, one for each, in their order.
 
-    More than 64 are refused, whatever they are, and that is raised.
+    An answer is an Enclosure, or a Refused, which is not raised.  More than 64 are refused with 14, whatever they are,
+    and that is raised.
     """
     # One too many is enough to be refused: no more are taken, and none of them is looked at.
-    given = list(islice(scenarios, SHEET + 1))
-    places = map(c_scenario, given) if len(given) <= SHEET else ()
-    sheet = LIBRARY.fusnoch_answer_sheet(len(given), _Scenarios((_Scenario * SHEET)(*places)))
+    given = list(islice(scenarios, SHEET_MOST + 1))
+    places = map(c_scenario, given) if len(given) <= SHEET_MOST else ()
+    sheet = LIBRARY.fusnoch_answer_sheet(len(given), _Scenarios((_Scenario * SHEET_MOST)(*places)))
     _unless_refused(sheet.number)
     ends = zip(sheet.median_low, sheet.median_high, sheet.sigma_low, sheet.sigma_high)
     return [Refused(number) if number else Enclosure(*four) for number, four in zip(sheet.numbers[:sheet.count], ends)]

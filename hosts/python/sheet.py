@@ -4,27 +4,31 @@
 A scenario that is refused does not stop the others.
 """
 
-from functools import partial
-
 import fusnoch
 from fusnoch import BOORE_ATKINSON, IDRISS, Refused, Scenario
 
 # The same throughout the page: V_S30 in 0.1 m/s, and the period in 0.001 s.
-VELOCITY, PERIOD = 5200, 1200
+VELOCITY, PERIOD = 5200, 1000
 
 MODELS = {IDRISS: 'Idriss 2014', BOORE_ATKINSON: 'Boore and Atkinson 2008'}
-MECHANISMS = {0: 'strike-slip', 1: 'normal', 2: 'reverse'}
+STRIKE_SLIP, NORMAL, REVERSE = 0, 1, 2
+MECHANISMS = {STRIKE_SLIP: 'strike-slip', NORMAL: 'normal', REVERSE: 'reverse'}
 
-earthquake = partial(Scenario, velocity=VELOCITY, period=PERIOD)
+
+def earthquake(model, magnitude, mechanism, **distances):
+    """Return a scenario of the page: magnitude in 0.01, distances in 0.01 km."""
+    return Scenario(model, magnitude, VELOCITY, mechanism, PERIOD, **distances)
+
+
 PAGE = [
-    earthquake(IDRISS, 700, mechanism=0, rupture_distance=1044, projection_distance=1000),
-    earthquake(BOORE_ATKINSON, 700, mechanism=0, rupture_distance=1044, projection_distance=1000),
-    earthquake(IDRISS, 650, mechanism=2, rupture_distance=2200, projection_distance=1850),
-    earthquake(BOORE_ATKINSON, 650, mechanism=2, rupture_distance=2200, projection_distance=1850),
-    earthquake(IDRISS, 800, mechanism=0, rupture_distance=18000),
-    earthquake(BOORE_ATKINSON, 800, mechanism=0, projection_distance=18000),
-    earthquake(IDRISS, 600, mechanism=1, rupture_distance=1200, projection_distance=1500),
-    earthquake(BOORE_ATKINSON, 600, mechanism=1, rupture_distance=1200),
+    earthquake(IDRISS, 700, STRIKE_SLIP, rupture_distance=1044, projection_distance=1000),
+    earthquake(BOORE_ATKINSON, 700, STRIKE_SLIP, rupture_distance=1044, projection_distance=1000),
+    earthquake(IDRISS, 650, REVERSE, rupture_distance=2200, projection_distance=1850),
+    earthquake(BOORE_ATKINSON, 650, REVERSE, rupture_distance=2200, projection_distance=1850),
+    earthquake(IDRISS, 800, STRIKE_SLIP, rupture_distance=18000),
+    earthquake(BOORE_ATKINSON, 800, STRIKE_SLIP, projection_distance=18000),
+    earthquake(IDRISS, 600, NORMAL, rupture_distance=1200, projection_distance=1500),
+    earthquake(BOORE_ATKINSON, 600, NORMAL, rupture_distance=1200),
 ]
 
 
@@ -47,7 +51,7 @@ A page of earthquakes for one bridge, 5 percent damped: V_S30 {VELOCITY // 10}.{
 period {PERIOD // 1000}.{PERIOD % 1000:03} s
 median, sigma: ends in units of 10^-9; they enclose the natural logarithm of the median in g, and sigma
 
-place | {"model":23} | {"M":>4} | rupture km | project km | {"mechanism":11} | \
+place | {"model":23} | {"M":>4} | rupture km | projection km | {"mechanism":11} | \
 {"median low":>12} {"median high":>12} {"sigma low":>10} {"sigma high":>10}'''
 
 
@@ -57,7 +61,7 @@ def main():
     print(heading())
     for place, (scenario, answer) in enumerate(zip(PAGE, answers), 1):
         print(f'{place:5} | {MODELS[scenario.model]:23} | {hundredths(scenario.magnitude):>4} | '
-              f'{hundredths(scenario.rupture_distance):>10} | {hundredths(scenario.projection_distance):>10} | '
+              f'{hundredths(scenario.rupture_distance):>10} | {hundredths(scenario.projection_distance):>13} | '
               f'{MECHANISMS[scenario.mechanism]:11} | {cells(answer)}')
     print(f'\n{len(answers)} scenarios, {sum(not isinstance(answer, Refused) for answer in answers)} answered')
 

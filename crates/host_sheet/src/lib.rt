@@ -1,7 +1,7 @@
 // A sheet's scenarios as C has them.
 ghost use mathlib.Core.Path.{_≡_};
 ghost use Prim.Native.Nat.{min};
-ghost use Rattle.sheet_theory.specs.Promise.{most};
+ghost use Rattle.sheet_theory.specs.Promise.{sheetMost};
 ghost use Rattle.sheet_theory.specs.Evaluation.{filled};
 ghost use Rattle.host_theory.specs.Told.{scenarioFrom, noFields};
 use host_scenario::scenario_from;
@@ -10,9 +10,9 @@ use scenario_theory::Projection;
 use scenario_theory::Rupture;
 use scenario_theory::Scenario;
 
-// The scenarios at the first n places; the others are not read.
+// The scenarios at the first n places; the others are not read, and are zeros, with no distances.
 pub fn scenarios_from(n: usize, places: [HostScenario; 64]) -> [Scenario; 64]
-    ensures { λ r. ⌜ r ≡ filled scenarioFrom (scenarioFrom noFields) (min n most) places ⌝ }
+    ensures { λ r. ⌜ r ≡ filled scenarioFrom (scenarioFrom noFields) (min n sheetMost) places ⌝ }
 {
     let none = Scenario {
         model: 0,

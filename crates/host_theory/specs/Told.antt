@@ -1,6 +1,6 @@
--- What C is told beside the plain struct of an answer: structs for the engine's scenario, doubles, millionths, rows,
--- readings and writings. An enum does not pass, so a refused one is the number with zeros, and an accepted one has the
--- number 0.
+-- What C is told beside the plain structs of an answer and of a sheet, and what it tells: structs for the engine's
+-- scenario and for those of a sheet, for doubles, millionths, rows, readings and writings. An enum does not pass, so a
+-- refused one is the number with zeros, and an accepted one has the number 0.
 use mathlib.Core.Bool.{cond}
 use mathlib.Core.List.{List, map}
 use mathlib.Core.Option.{Option, none, some}

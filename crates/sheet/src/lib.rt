@@ -5,7 +5,8 @@ ghost use Rattle.sheet_theory.specs.Evaluation.{sheetOf};
 use scenario_theory::Scenario;
 pub use sheet_theory::FlatSheet;
 
-// Answers the first count of the scenarios, and none of them where that is more than 64.
+// Answers the first count of the scenarios, and none of them where that is more than 64. (A signed number is stored by
+// way of a variable, as the checker does not walk a store from a part of a struct.)
 pub fn answer_sheet(count: usize, scenarios: [Scenario; 64]) -> FlatSheet
     ensures { λ r. ⌜ r ≡ sheetOf count scenarios ⌝ }
     ensures { λ r. ⌜ SheetPromise count scenarios r ⌝ }

@@ -5,7 +5,7 @@ use Prim.Native.Nat.{ℕ, zero, suc, _+_, _-_, _≤_, _<_}
 use native.Mathlib.Omega.{arith}
 use lib.ListN.{length, getD, take, replicate, set, length-map}
 use lib.Seq.{length-take-le, take-suc, append-snoc, set-at, take-append-le, take-take, getD-append-add}
-use Rattle.sheet_theory.specs.Promise.{most}
+use Rattle.sheet_theory.specs.Promise.{sheetMost}
 use Rattle.sheet_theory.specs.Evaluation.{filled}
 
 module _ {A B : Type 0} (f : A → B) (z : B) where
@@ -14,13 +14,13 @@ module _ {A B : Type 0} (f : A → B) (z : B) where
   front n xs h = length-map (take n xs) f ∙ length-take-le n xs h
 
   -- a store at place i adds the next
-  pub filled-next : (i : ℕ) (xs : List A) (d : A) {v : B} → i < most → i < length xs → v ≡ f (getD xs i d) →
+  pub filled-next : (i : ℕ) (xs : List A) (d : A) {v : B} → i < sheetMost → i < length xs → v ≡ f (getD xs i d) →
       set (filled f z i xs) i v ≡ filled f z (i + 1) xs
   unfolding filled
   filled-next i xs d {v} room there e =
       let p : List B = map f (take i xs) in
-      let rest : List B = replicate (most - suc i) z in
-      let one : most - i ≡ suc (most - suc i) = omega arith in
+      let rest : List B = replicate (sheetMost - suc i) z in
+      let one : sheetMost - i ≡ suc (sheetMost - suc i) = omega arith in
       let next : suc i ≡ i + 1 = omega arith in
       ap (λ (k : ℕ). set (p ++ replicate k z) i v) one
       ∙ set-at p z rest v i (front i xs (omega arith))
@@ -28,8 +28,9 @@ module _ {A B : Type 0} (f : A → B) (z : B) where
       ∙ ap (λ (y : B). p ++ (y ∷ []) ++ rest) e
       ∙ ap (λ (l : List B). l ++ rest)
       (sym (ap (map f) (take-suc xs i d there) ∙ map-append f (take i xs) (getD xs i d ∷ [])))
-      ∙ ap (λ (k : ℕ). map f (take k xs) ++ replicate (most - k) z) next
+      ∙ ap (λ (k : ℕ). map f (take k xs) ++ replicate (sheetMost - k) z) next
 
+  -- in front stands f of each, whatever comes after
   at : (n : ℕ) (xs : List A) (rest : List B) (i : ℕ) (d : A) → i < n → n ≤ length xs →
       getD (map f (take n xs) ++ rest) i z ≡ f (getD xs i d)
   at zero xs rest i d h there = absurd (omega arith)
@@ -37,6 +38,7 @@ module _ {A B : Type 0} (f : A → B) (z : B) where
   at (suc n) (x ∷ xs) rest zero d h there = refl
   at (suc n) (x ∷ xs) rest (suc i) d h there = at n xs rest i d (omega arith) (omega arith)
 
+  -- of nothing but z every element is z
   all-z : (k j : ℕ) → getD (replicate k z) j z ≡ z
   all-z zero j = refl
   all-z (suc k) zero = refl
@@ -46,22 +48,23 @@ module _ {A B : Type 0} (f : A → B) (z : B) where
   pub filled-before : (n : ℕ) (xs : List A) (i : ℕ) (d : A) → i < n → n ≤ length xs →
       getD (filled f z n xs) i z ≡ f (getD xs i d)
   unfolding filled
-  filled-before n xs i d h there = at n xs (replicate (most - n) z) i d h there
+  filled-before n xs i d h there = at n xs (replicate (sheetMost - n) z) i d h there
 
   pub filled-after : (n : ℕ) (xs : List A) (i : ℕ) → n ≤ i → n ≤ length xs → getD (filled f z n xs) i z ≡ z
   unfolding filled
   filled-after n xs i h there =
       let p : List B = map f (take n xs) in
       let past : i ≡ length p + (i - n) = omega (arith, front n xs there) in
-      ap (λ (k : ℕ). getD (p ++ replicate (most - n) z) k z) past
-      ∙ getD-append-add p (replicate (most - n) z) (i - n) z
-      ∙ all-z (most - n) (i - n)
+      ap (λ (k : ℕ). getD (p ++ replicate (sheetMost - n) z) k z) past
+      ∙ getD-append-add p (replicate (sheetMost - n) z) (i - n) z
+      ∙ all-z (sheetMost - n) (i - n)
 
   -- what is not among the first n is not looked at
   pub filled-alike : (n : ℕ) (xs ys : List A) → take n xs ≡ take n ys → filled f z n xs ≡ filled f z n ys
   unfolding filled
-  filled-alike n xs ys e = ap (λ (l : List A). map f l ++ replicate (most - n) z) e
+  filled-alike n xs ys e = ap (λ (l : List A). map f l ++ replicate (sheetMost - n) z) e
 
+  -- f of the first, and the first of f of all
   mapped : (n : ℕ) (xs : List A) → map f (take n xs) ≡ take n (map f xs)
   mapped zero xs = refl
   mapped (suc n) [] = refl
@@ -71,7 +74,7 @@ module _ {A B : Type 0} (f : A → B) (z : B) where
   pub filled-front : (m n : ℕ) (xs : List A) → m ≤ n → n ≤ length xs → take m (filled f z n xs) ≡ take m (map f xs)
   unfolding filled
   filled-front m n xs few there =
-      take-append-le m (map f (take n xs)) (replicate (most - n) z) (omega (arith, front n xs there))
+      take-append-le m (map f (take n xs)) (replicate (sheetMost - n) z) (omega (arith, front n xs there))
       ∙ sym (mapped m (take n xs))
       ∙ ap (map f) (take-take m n xs few)
       ∙ mapped m xs

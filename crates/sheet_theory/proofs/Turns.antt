@@ -13,7 +13,7 @@ use Rattle.engine_theory.specs.declared.FlatAnswer.{FlatAnswer}
 use Rattle.engine_theory.specs.Evaluation.{answerOf}
 use Rattle.engine_theory.specs.Flat.{told}
 use Rattle.sheet_theory.specs.declared.FlatSheet.{FlatSheet}
-use Rattle.sheet_theory.specs.Promise.{most, noAnswer}
+use Rattle.sheet_theory.specs.Promise.{sheetMost, noAnswer}
 use Rattle.sheet_theory.specs.Evaluation.{filled, column, answeredOf, sheetWith, sheetOf}
 use Rattle.sheet_theory.proofs.Filling.{filled-next}
 
@@ -32,27 +32,32 @@ sheet number count median-low median-high sigma-low sigma-high numbers =
 
 -- with n turns to do, and after i of them, it is the sheet of the first i scenarios
 pub record Turned (count : ℕ) (xs : List Scenario) (number n i : ℕ) (r : FlatSheet) : Type 0 where
-  pub refusal : number ≡ 14 when ltb most count
+  pub refusal : number ≡ 14 when ltb sheetMost count
   pub turns : n ≡ answeredOf count
-  pub room : n ≤ most
+  pub room : n ≤ sheetMost
   pub within : i ≤ n
   pub held : r ≡ sheetWith number i xs
 
-few : (count : ℕ) → answeredOf count ≤ most
-few count = by-test (ltb most count) (λ (k : ℕ). k ≤ most) (λ h. omega arith) (λ h. nltb→le most count h)
+-- no more are answered than there are places
+pub few : (count : ℕ) → answeredOf count ≤ sheetMost
+few count = by-test (ltb sheetMost count) (λ (k : ℕ). k ≤ sheetMost) (λ h. omega arith) (λ h. nltb→le sheetMost count h)
+
+module _ {B : Type 0} where
+  -- an array that holds nothing yet
+  abbrev pub zeros : B → List B
+  zeros z = replicate sheetMost z
 
 -- before the first turn all is zeros
-pub first-turn : {count : ℕ} {xs : List Scenario} {number n : ℕ} → number ≡ 14 when ltb most count →
+pub first-turn : {count : ℕ} {xs : List Scenario} {number n : ℕ} → number ≡ 14 when ltb sheetMost count →
     n ≡ answeredOf count →
     Turned count xs number n 0
-    (sheet number 0 (replicate most (pos 0)) (replicate most (pos 0)) (replicate most (pos 0)) (replicate most (pos 0))
-    (replicate most 0))
+    (sheet number 0 (zeros (pos 0)) (zeros (pos 0)) (zeros (pos 0)) (zeros (pos 0)) (zeros 0))
 unfolding filled
 first-turn {count} e f =
     record {
       refusal = e;
       turns = f;
-      room = subst (λ (k : ℕ). k ≤ most) (sym f) (few count);
+      room = subst (λ (k : ℕ). k ≤ sheetMost) (sym f) (few count);
       within = omega arith;
       held = refl;
     }
@@ -64,7 +69,8 @@ stored r i a =
     (set (r .«sigma_low») i (a .«sigma_low»)) (set (r .«sigma_high») i (a .«sigma_high»))
     (set (r .numbers) i (a .number))
 
-next : (number i : ℕ) (xs : List Scenario) (d : Scenario) → i < most → i < length xs →
+-- with the answer of the next scenario it is the sheet of one more
+next : (number i : ℕ) (xs : List Scenario) (d : Scenario) → i < sheetMost → i < length xs →
     stored (sheetWith number i xs) i (told (answerOf (getD xs i d))) ≡ sheetWith number (i + 1) xs
 next number i xs d room there =
     rw (
@@ -81,19 +87,19 @@ next number i xs d room there =
 
 -- a turn stores the fields of the next scenario's answer, a
 pub next-turn : {count : ℕ} {xs : List Scenario} {number n i : ℕ} {ml mh sl sh : List ℤ} {ks : List ℕ} {p q s t : ℤ}
-    (d : Scenario) (a : FlatAnswer) → Turned count xs number n i (sheet number i ml mh sl sh ks) → length xs ≡ most →
-    i < n → a ≡ told (answerOf (getD xs i d)) → p ≡ a .«median_low» → q ≡ a .«median_high» → s ≡ a .«sigma_low» →
-    t ≡ a .«sigma_high» →
+    (d : Scenario) (a : FlatAnswer) → Turned count xs number n i (sheet number i ml mh sl sh ks) →
+    length xs ≡ sheetMost → i < n → a ≡ told (answerOf (getD xs i d)) → p ≡ a .«median_low» → q ≡ a .«median_high» →
+    s ≡ a .«sigma_low» → t ≡ a .«sigma_high» →
     Turned count xs number n (i + 1)
     (sheet number (i + 1) (set ml i p) (set mh i q) (set sl i s) (set sh i t) (set ks i (a .number)))
-next-turn {xs = xs} {number} {i = i} {ml} {mh} {sl} {sh} {ks} d a h long more e low high sigma-low sigma-high =
+next-turn {xs = xs} {number} {i = i} d a h long more e median-low median-high sigma-low sigma-high =
     record {
       refusal = h .refusal;
       turns = h .turns;
       room = h .room;
       within = omega arith;
       held =
-          rw (low, high, sigma-low, sigma-high, e)
+          rw (median-low, median-high, sigma-low, sigma-high, e)
           (ap (λ (r : FlatSheet). stored r i (told (answerOf (getD xs i d)))) (h .held)
           ∙ next number i xs d (omega (arith, h .room)) (omega (arith, h .room, long)));
     }
@@ -106,5 +112,5 @@ last-turn {count} {xs} {number} {n} {i} h all =
     let here : n ≡ i = omega (arith, h .within) in (
       here,
       h .held ∙ ap (λ (k : ℕ). sheetWith k i xs) (h .refusal)
-          ∙ ap (λ (j : ℕ). sheetWith (14 when ltb most count) j xs) (sym here ∙ h .turns),
+          ∙ ap (λ (j : ℕ). sheetWith (14 when ltb sheetMost count) j xs) (sym here ∙ h .turns),
     )

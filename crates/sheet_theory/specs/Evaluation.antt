@@ -10,12 +10,12 @@ use Rattle.engine_theory.specs.declared.FlatAnswer.{FlatAnswer}
 use Rattle.engine_theory.specs.Evaluation.{answerOf}
 use Rattle.engine_theory.specs.Flat.{told}
 use Rattle.sheet_theory.specs.declared.FlatSheet.{FlatSheet}
-use Rattle.sheet_theory.specs.Promise.{most, noAnswer}
+use Rattle.sheet_theory.specs.Promise.{sheetMost, noAnswer}
 
 module _ {A B : Type 0} where
   -- an array of 64: f of each of the first n of xs, then z
   unfoldable pub filled : (A → B) → B → ℕ → List A → List B
-  filled f z n xs = map f (take n xs) ++ replicate (most - n) z
+  filled f z n xs = map f (take n xs) ++ replicate (sheetMost - n) z
 
 module _ {B : Type 0} where
   -- the array of one field: that of each of the first n scenarios' answers, as the single call gives them, then zeros
@@ -24,7 +24,7 @@ module _ {B : Type 0} where
 
 -- how many are answered: "more than 64 scenarios .. no place is then answered"
 abbrev pub answeredOf : ℕ → ℕ
-answeredOf count = cond (ltb most count) 0 count
+answeredOf count = cond (ltb sheetMost count) 0 count
 
 -- the sheet whose first n scenarios are answered, with a number of its own
 abbrev pub sheetWith : ℕ → ℕ → List Scenario → FlatSheet
@@ -41,4 +41,4 @@ sheetWith number n scenarios =
 
 -- "14, more than 64 scenarios, checked before all else"
 unfoldable pub sheetOf : ℕ → List Scenario → FlatSheet
-sheetOf count scenarios = sheetWith (14 when ltb most count) (answeredOf count) scenarios
+sheetOf count scenarios = sheetWith (14 when ltb sheetMost count) (answeredOf count) scenarios

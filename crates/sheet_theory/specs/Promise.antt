@@ -12,8 +12,8 @@ use Rattle.engine_theory.specs.Flat.{told, FlatPromise}
 use Rattle.sheet_theory.specs.declared.FlatSheet.{FlatSheet}
 
 -- "Up to 64 scenarios"
-abbrev pub most : ℕ
-most = 64
+abbrev pub sheetMost : ℕ
+sheetMost = 64
 
 -- "places past the count hold zeros"
 abbrev pub noAnswer : FlatAnswer
@@ -25,9 +25,10 @@ noAnswer = record {
   «sigma_high» = pos 0;
 }
 
--- what a sheet holds at place i, counted from 0
-abbrev pub placeIn : FlatSheet → ℕ → FlatAnswer
-placeIn r i = record {
+-- what a sheet holds at place i, counted from 0; its arrays are of 64 by their type, so that the zeros of `getD` are
+-- taken from place 64 on only
+abbrev pub answerAt : FlatSheet → ℕ → FlatAnswer
+answerAt r i = record {
   number = getD (r .numbers) i 0;
   «median_low» = getD (r .«median_low») i (pos 0);
   «median_high» = getD (r .«median_high») i (pos 0);
@@ -35,20 +36,22 @@ placeIn r i = record {
   «sigma_high» = getD (r .«sigma_high») i (pos 0);
 }
 
--- what the place of s holds: "Each place equals what the single call gives for that scenario, refusals included"; and
--- what is promised of that, so that nobody has to look into it
+-- what stands at the place of s
 pub record PlacePromise (s : Scenario) (a : FlatAnswer) : Type 0 where
+  -- "Each place equals what the single call gives for that scenario, refusals included"
   pub single : a ≡ told (answerOf s)
+  -- and keeps what that call promises: "A refused place holds its number, with zeros for its ends"; "an accepted place
+  -- holds 0 as its number", with ends that enclose
   pub promise : FlatPromise (refusalOf s) s a
 
 -- a sheet of so many scenarios
 pub record SheetPromise (count : ℕ) (scenarios : List Scenario) (r : FlatSheet) : Type 0 where
   -- "14, more than 64 scenarios, checked before all else; .. the count is 0"
-  pub over : most < count → (r .number ≡ 14) × (r .count ≡ 0)
-  -- "The count is the number of scenarios, refused ones too"; "14 then and 0 otherwise"
-  pub within : count ≤ most → (r .number ≡ 0) × (r .count ≡ count)
-  -- "A refused scenario doesn't stop the others": at each place, whatever is at the others; an array of 64 has a
-  -- scenario there, so that d is none
-  pub places : (i : ℕ) (d : Scenario) → i < r .count → PlacePromise (getD scenarios i d) (placeIn r i)
-  -- "places past the count hold zeros"; with 14 "all places hold zeros"
-  pub zeros : (i : ℕ) → r .count ≤ i → placeIn r i ≡ noAnswer
+  pub over : sheetMost < count → (r .number ≡ 14) × (r .count ≡ 0)
+  -- "The count is the number of scenarios, refused ones too, so an empty sheet has count 0"; "14 then and 0 otherwise"
+  pub within : count ≤ sheetMost → (r .number ≡ 0) × (r .count ≡ count)
+  -- "A refused scenario doesn't stop the others": at each place, whatever stands at the others; d is never taken, as
+  -- an array of 64 has a scenario at each of them
+  pub places : (i : ℕ) (d : Scenario) → i < r .count → PlacePromise (getD scenarios i d) (answerAt r i)
+  -- "places past the count hold zeros"; with 14 "no place is then answered, .. and all places hold zeros"
+  pub zeros : (i : ℕ) → r .count ≤ i → answerAt r i ≡ noAnswer

@@ -2,7 +2,8 @@
 
 // A sheet of up to 64 answers: number 0, how many there are, and at each place before that count the low and high ends
 // of the median and of sigma, natural logarithms in units of 10^-9, beside the number 0, or zeros beside the number of
-// the refusal; places from the count on hold zeros. Or number 14, more than 64 scenarios, and zeros for all else.
+// the refusal; places from the count on hold zeros, and are no answers. Or number 14, more than 64 scenarios, and zeros
+// for all else.
 #[repr(C)]
 pub struct FlatSheet {
     pub number: u8,

@@ -5,7 +5,7 @@ use fusnoch::{Enclosure, ProjectionDistance, Refusal, RuptureDistance, Scenario,
 
 /// The same throughout the page: V_S30 in 0.1 m/s, and the period in 0.001 s.
 const VELOCITY: u16 = 5200;
-const PERIOD: u16 = 1200;
+const PERIOD: u16 = 1000;
 
 const STRIKE_SLIP: u8 = 0;
 const NORMAL: u8 = 1;
@@ -22,7 +22,7 @@ const PAGE: [Scenario; 8] = [
     earthquake(BOORE_ATKINSON, 600, Some(RuptureDistance(1200)), None, NORMAL),
 ];
 
-/// A scenario of the page.
+/// A scenario of the page: magnitude in 0.01.
 const fn earthquake(
     model: u8,
     magnitude: u16,
@@ -77,14 +77,14 @@ fn print_heading() {
     println!("median, sigma: ends in units of 10^-9; they enclose the natural logarithm of the median in g, and sigma");
     println!();
     println!(
-        "place | {:23} | {:>4} | rupture km | project km | {:11} | {:>12} {:>12} {:>10} {:>10}",
+        "place | {:23} | {:>4} | rupture km | projection km | {:11} | {:>12} {:>12} {:>10} {:>10}",
         "model", "M", "mechanism", "median low", "median high", "sigma low", "sigma high"
     );
 }
 
 fn print_line(place: usize, s: &Scenario, answer: &Result<Enclosure, Refusal>) {
     println!(
-        "{:5} | {:23} | {:>4} | {:>10} | {:>10} | {:11} | {}",
+        "{:5} | {:23} | {:>4} | {:>10} | {:>13} | {:11} | {}",
         place,
         model_name(s.model),
         decimal(s.magnitude),

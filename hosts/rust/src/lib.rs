@@ -6,7 +6,7 @@ pub const IDRISS: u8 = 1;
 pub const BOORE_ATKINSON: u8 = 2;
 
 /// The most scenarios that a sheet has.
-pub const SHEET: usize = 64;
+pub const SHEET_MOST: usize = 64;
 
 /// The distance to the rupture, in 0.01 km.
 #[derive(Clone, Copy, Debug, PartialEq, Eq, PartialOrd, Ord, Hash)]
@@ -117,7 +117,7 @@ impl std::error::Error for Refusal {}
 
 /// The functions of fusnoch.h.
 mod raw {
-    use super::{Enclosure, Millionths, ProjectionDistance, Rows, RuptureDistance, SHEET};
+    use super::{Enclosure, Millionths, ProjectionDistance, Rows, RuptureDistance, SHEET_MOST};
 
     /// A distance whose flag is 0 is absent, whatever its number.
     #[repr(C)]
@@ -173,7 +173,7 @@ mod raw {
     /// Places from the count on are not read.
     #[repr(C)]
     pub struct Scenarios {
-        pub places: [Scenario; SHEET],
+        pub places: [Scenario; SHEET_MOST],
     }
 
     /// The number is the sheet's own; the others are those of its places.
@@ -181,11 +181,11 @@ mod raw {
     pub struct Sheet {
         pub number: u8,
         pub count: usize,
-        pub median_low: [i64; SHEET],
-        pub median_high: [i64; SHEET],
-        pub sigma_low: [i64; SHEET],
-        pub sigma_high: [i64; SHEET],
-        pub numbers: [u8; SHEET],
+        pub median_low: [i64; SHEET_MOST],
+        pub median_high: [i64; SHEET_MOST],
+        pub sigma_low: [i64; SHEET_MOST],
+        pub sigma_high: [i64; SHEET_MOST],
+        pub numbers: [u8; SHEET_MOST],
     }
 
     impl Sheet {
@@ -294,11 +294,11 @@ pub fn answer_record_in_doubles(bytes: &[u8]) -> Result<Enclosure<f64>, Refusal>
     ends(unsafe { raw::fusnoch_answer_record_in_doubles(bytes.as_ptr(), bytes.len()) })
 }
 
-/// Answers up to 64 scenarios in one go, each as `answer` does; one that is refused does not stop the others. More than
-/// 64 are refused, whatever they are.
+/// Answers up to 64 scenarios in one go: one answer for each, in their order, as `answer` gives it; one that is refused
+/// does not stop the others. More than 64 are refused with 14, whatever they are.
 pub fn answer_sheet(scenarios: &[Scenario]) -> Result<Vec<Result<Enclosure, Refusal>>, Refusal> {
     // Those for which there is no place are left out: the engine refuses their count.
-    let mut places = [raw::Scenario::default(); SHEET];
+    let mut places = [raw::Scenario::default(); SHEET_MOST];
     for (place, scenario) in places.iter_mut().zip(scenarios) {
         *place = scenario.into();
     }

@@ -3,7 +3,7 @@ use mathlib.Core.Path.{_≡_, sym, ap, _∙_}
 use native.Mathlib.Omega.{arith}
 use borrow.Author.Needs.{needs}
 use lib.ListN.{length, length-map}
-use Rattle.sheet_theory.specs.Promise.{most}
+use Rattle.sheet_theory.specs.Promise.{sheetMost}
 use Rattle.sheet_theory.specs.Evaluation.{sheetOf}
 use Rattle.sheet_theory.proofs.Laws.{sheet-promised, sheet-made}
 use Rattle.host_theory.proofs.HostScenario.{the-type}
@@ -15,7 +15,8 @@ returns : tie.Need-returns
 returns c =
     let told = c .before .before .before in
     let places = told .args .scenarios .places in
-    let long : length places ≡ most = sym (length-map places (the-type .to)) ∙ told .good .1 .0 .1 .1 .0 .1 .0 .1 in
+    let good = told .good .1 .0 .1 .1 .0 .1 .0 .1 in
+    let long : length places ≡ sheetMost = sym (length-map places (the-type .to)) ∙ good in
     sheet-promised _ _ (length-map places scenarioFrom ∙ long)
     (c .answer-sheet .ensures .0 ∙ ap (sheetOf (told .args .count)) (c .before .scenarios-from .ensures)
     ∙ sheet-made scenarioFrom (scenarioFrom noFields) (told .args .count) _ places (omega (arith, long))

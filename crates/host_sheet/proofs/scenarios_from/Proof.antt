@@ -7,7 +7,7 @@ use borrow.Author.Needs.{needs}
 use borrow.Author.Tests.{ltb-true, ltb-false}
 use lib.ListN.{length, set}
 use Rattle.scenario_theory.specs.declared.Scenario.{Scenario}
-use Rattle.sheet_theory.specs.Promise.{most}
+use Rattle.sheet_theory.specs.Promise.{sheetMost}
 use Rattle.sheet_theory.specs.Evaluation.{filled}
 use Rattle.sheet_theory.proofs.Filling.{filled-next}
 use Rattle.host_theory.specs.declared.HostScenario.{HostScenario}
@@ -19,10 +19,10 @@ abbrev converted : ℕ → List HostScenario → List Scenario
 converted i places = filled scenarioFrom (scenarioFrom noFields) i places
 
 abbrev Inv-loop : tie.InvT-loop
-Inv-loop n places _ _ scenarios i = (i ≤ n) × (i ≤ most) × (scenarios ≡ converted i places)
+Inv-loop n places _ _ scenarios i = (i ≤ n) × (i ≤ sheetMost) × (scenarios ≡ converted i places)
 
 abbrev μ-loop : tie.MeasureT-loop
-μ-loop n places _ _ scenarios i = most - i
+μ-loop n places _ _ scenarios i = sheetMost - i
 
 begins : tie.Need-loop-holds Inv-loop μ-loop
 unfolding filled
@@ -35,7 +35,7 @@ goes-on c =
     let l = begun .loop in
     let room = c .before .before .before .loop-test .taken in
     let more = ltb-true (l .i) (s .args .n) (c .before .before .if1 .taken) in
-    let long : length (s .args .t2) ≡ most = s .good .1 .0 .1 .0 .1 in (
+    let long : length (s .args .t2) ≡ sheetMost = s .good .1 .0 .1 .0 .1 in (
       omega (arith, more),
       omega (arith, room),
       ap (λ a. set a (l .i) (c .scenario-from .result)) (l .inv .2)
@@ -45,7 +45,7 @@ goes-on c =
 
 -- at the count, or at the end of the array, whichever comes first
 ends : (n i : ℕ) (places : List HostScenario) {scenarios : List Scenario} → scenarios ≡ converted i places →
-    i ≡ min n most → scenarios ≡ converted (min n most) places
+    i ≡ min n sheetMost → scenarios ≡ converted (min n sheetMost) places
 ends n i places e f = e ∙ ap (λ (k : ℕ). converted k places) f
 
 at-the-count : tie.Need-returns Inv-loop μ-loop

@@ -7,7 +7,7 @@ use borrow.Author.Needs.{needs}
 use borrow.Author.Tests.{lt-ltb, le-ltb}
 use mir.Syntax.{w64}
 use mir.ValLaws.{toZ-ofZ}
-use Rattle.sheet_theory.specs.Promise.{most}
+use Rattle.sheet_theory.specs.Promise.{sheetMost}
 use Rattle.sheet_theory.proofs.Laws.{sheet-promised}
 use Rattle.sheet_theory.proofs.Turns.{sheet, Turned, first-turn, next-turn, last-turn}
 use Rattle.sheet.proofs.answer_sheet.Statement.{statement}
@@ -25,10 +25,10 @@ begins c =
     let count = c .before .args .count in
     ⊎-elim
     (λ w.
-    let over = lt-ltb most count (omega (arith, w .0 .taken)) in
+    let over = lt-ltb sheetMost count (omega (arith, w .0 .taken)) in
     first-turn (rw over (w .1)) (rw over (w .2)))
     (λ w.
-    let within = le-ltb most count (omega (arith, w .0 .left)) in
+    let within = le-ltb sheetMost count (omega (arith, w .0 .left)) in
     first-turn (rw within (w .1)) (rw within (w .2)))
     (c .if1 .came)
 
