@@ -24,7 +24,7 @@ ALONE := flock target/tests/lock
 
 .PHONY: run test lib examples bench longer definitions outside hosts probe program need need_hosts need_bench need_test
 .PHONY: test_logarithm test_records test_models test_answers test_millionths test_enclosures test_program_failures
-.PHONY: test_hosts test_sheets test_kinds
+.PHONY: test_hosts test_sheets test_kinds test_contracts
 .SILENT:
 
 run: program
@@ -56,7 +56,6 @@ bench: need_bench lib
 definitions: need_test
 	tools/edits
 	tools/contracts --check
-	python3 tests/test_contracts.py
 	tools/logarithm_tables.py --check
 	python3 tests/test_exact.py
 	python3 tests/test_values.py
@@ -66,7 +65,7 @@ definitions: need_test
 
 # The longest first, and with it the hosts' library, which most of the others wait for.
 outside: test_enclosures test_hosts test_millionths test_records test_sheets test_answers test_kinds test_models
-outside: test_logarithm test_program_failures
+outside: test_contracts test_logarithm test_program_failures
 
 test_logarithm test_models: test_%: probe
 	python3 tests/$@.py $(PROBE)
@@ -85,6 +84,9 @@ test_sheets: hosts
 
 test_kinds: hosts
 	python3 tests/$@.py $(LIB)
+
+test_contracts:
+	python3 tests/$@.py
 
 test_enclosures test_program_failures: test_%: program
 	python3 tests/$@.py $(PROGRAM)

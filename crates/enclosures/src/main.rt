@@ -7,7 +7,7 @@ use error_line::put_error;
 use libc::STDERR_FILENO;
 use libc::STDIN_FILENO;
 use libc::STDOUT_FILENO;
-use page::put_output;
+use page_output::put_output;
 
 const BYTES_TAKEN: usize = 4_096;
 

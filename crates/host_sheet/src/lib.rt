@@ -1,19 +1,20 @@
 // A sheet's scenarios as C has them.
 ghost use mathlib.Core.Path.{_≡_};
-ghost use Prim.Native.Nat.{min};
-ghost use Rattle.sheet_theory.specs.Promise.{sheetMost};
-ghost use Rattle.sheet_theory.specs.Evaluation.{filled};
+ghost use Rattle.sheet_theory.specs.Evaluation.{filled, headOf};
 ghost use Rattle.host_theory.specs.Told.{scenarioFrom, noFields};
 use host_scenario::scenario_from;
 use host_theory::HostScenario;
 use scenario_theory::Projection;
 use scenario_theory::Rupture;
 use scenario_theory::Scenario;
+use sheet_head::head_of;
 
-// The scenarios at the first n places; the others are not read, and are zeros, with no distances.
-pub fn scenarios_from(n: usize, places: [HostScenario; 64]) -> [Scenario; 64]
-    ensures { λ r. ⌜ r ≡ filled scenarioFrom (scenarioFrom noFields) (min n sheetMost) places ⌝ }
+// The scenarios at the places that are answered with this count, the first so many or none; the other places are not
+// read, and what stands for them are zeros, with no distances.
+pub fn scenarios_from(count: usize, places: [HostScenario; 64]) -> [Scenario; 64]
+    ensures { λ r. ⌜ r ≡ filled scenarioFrom (scenarioFrom noFields) (headOf count .count) places ⌝ }
 {
+    let head = head_of(count);
     let none = Scenario {
         model: 0,
         magnitude: 0,
@@ -25,7 +26,7 @@ pub fn scenarios_from(n: usize, places: [HostScenario; 64]) -> [Scenario; 64]
     };
     let mut scenarios = [none; 64];
     let mut i: usize = 0;
-    while i < 64 && i < n {
+    while i < head.count {
         let place = places[i];
         scenarios[i] = scenario_from(place);
         i += 1;

@@ -5,10 +5,8 @@ ghost use lib.ListN.{length, take};
 ghost use Rattle.report_theory.specs.Lines.{lineOf, lastLineOf};
 ghost use Rattle.enclosures_theory.specs.Sizes.{bytesTaken, linesMost, lineMost, lastMost, pageMost};
 ghost use Rattle.enclosures_theory.specs.Output.{ended, linesOf};
-ghost use Rattle.enclosures_theory.specs.Transfers.{ReadInto, outputOf};
 ghost use Rattle.enclosures_theory.specs.Steps.{Added, Gone};
 use enclosures_theory::Printed;
-use enclosures_theory::Transfer;
 use engine_theory::Answer;
 use engine_theory::NextAnswer;
 use error_line::put_text;
@@ -28,7 +26,7 @@ fn put_last_line(out: &mut [u8], at: usize, count: u64) -> usize
     requires { ⌜ at + lastMost ≤ length (now out) ⌝ }
     ensures { λ r. ⌜ Added (ended (lastLineOf count)) at (now (out .entry)) r (now (out .exit)) ⌝ }
 {
-    let n = report::last_line(count, &mut out[at..]);
+    let n = report_end::last_line(count, &mut out[at..]);
     out[at + n] = 10;
     at + n + 1
 }
@@ -67,18 +65,4 @@ pub fn put_page(s: &[u8], out: &mut [u8]) -> usize
     let start = put_text(out, 0, b"enclosures\n");
     let p = put_lines(s, out, start);
     put_last_line(out, p.next, p.count)
-}
-
-// Puts what goes to standard output after a read into bytes, which has room for just as many as are taken, and answers
-// how many bytes it has.
-pub fn put_output(got: Transfer, bytes: &[u8], out: &mut [u8]) -> usize
-    requires { ⌜ (pageMost ≤ length (now out)) × (length (now bytes) ≡ bytesTaken) ⌝ }
-    requires { ⌜ ReadInto (length (now bytes)) got ⌝ }
-    ensures { λ r. ⌜ take r (now (out .exit)) ≡ outputOf got (now (bytes .entry)) ⌝ }
-    ensures { λ r. ⌜ r ≤ length (now (out .exit)) ⌝ }
-{
-    match got {
-        Transfer::Complete(n) => put_page(&bytes[..n], out),
-        Transfer::Failed(_) => 0,
-    }
 }

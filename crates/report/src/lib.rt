@@ -1,11 +1,10 @@
-// The line of an answer and the last line, as bytes.
+// The line of an answer, as bytes.
 ghost use mathlib.Core.Path.{_≡_};
 ghost use Prim.Native.Nat.{_+_, _≤_};
 ghost use lib.ListN.{length};
-ghost use lib.Seq.{sets};
 ghost use Rattle.stores_theory.specs.Stores.{Put};
 ghost use Rattle.engine_theory.specs.declared.Answer.the-variants.{Enclosed, Refused};
-ghost use Rattle.report_theory.specs.Lines.{lineOf, endBytes, lastLineOf, lengthOn, bytesAfter};
+ghost use Rattle.report_theory.specs.Lines.{lineOf, lengthOn, bytesAfter};
 ghost use Rattle.report_theory.specs.Steps.{Counted, wordOf, wordsFor, signBytes, wordBytes, bothBytes, headBytes};
 use decimal::decimal_length;
 use decimal::put_decimal;
@@ -136,30 +135,4 @@ pub fn line(position: u64, a: Answer, out: &mut [u8]) -> usize
         Answer::Enclosed(e) => enclosed_line(position, e, out),
         Answer::Refused(k) => refused_line(position, k, out),
     }
-}
-
-// Puts the word of the last line and a space at the front.
-fn put_word_end(out: &mut [u8])
-    requires { ⌜ 4 ≤ length (now out) ⌝ }
-    ensures { λ _. ⌜ now (out .exit) ≡ sets (now (out .entry)) 0 endBytes ⌝ }
-{
-    out[0] = 101;
-    out[1] = 110;
-    out[2] = 100;
-    out[3] = 32;
-}
-
-// Puts the last line, without its line end, at the front of out, and answers its length; where it does not fit, the
-// length is 0 and out is not touched.
-pub fn last_line(count: u64, out: &mut [u8]) -> usize
-    ensures { λ r. ⌜ r ≡ lengthOn (lastLineOf count) (now (out .entry)) ⌝ }
-    ensures { λ _. ⌜ now (out .exit) ≡ bytesAfter (lastLineOf count) (now (out .entry)) ⌝ }
-{
-    let n = decimal_length(count) + 4;
-    if out.len() < n {
-        return 0;
-    }
-    put_word_end(out);
-    put_decimal(out, 4, count);
-    n
 }

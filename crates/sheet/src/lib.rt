@@ -3,6 +3,7 @@ ghost use mathlib.Core.Path.{_≡_};
 ghost use Rattle.sheet_theory.specs.Promise.{SheetPromise};
 ghost use Rattle.sheet_theory.specs.Evaluation.{sheetOf};
 use scenario_theory::Scenario;
+use sheet_head::head_of;
 pub use sheet_theory::FlatSheet;
 
 // Answers the first count of the scenarios, and none of them where that is more than 64. (A signed number is stored by
@@ -11,19 +12,14 @@ pub fn answer_sheet(count: usize, scenarios: [Scenario; 64]) -> FlatSheet
     ensures { λ r. ⌜ r ≡ sheetOf count scenarios ⌝ }
     ensures { λ r. ⌜ SheetPromise count scenarios r ⌝ }
 {
-    let mut number: u8 = 0;
-    let mut answered = count;
-    if 64 < count {
-        number = 14;
-        answered = 0;
-    }
+    let head = head_of(count);
     let mut median_low = [0i64; 64];
     let mut median_high = [0i64; 64];
     let mut sigma_low = [0i64; 64];
     let mut sigma_high = [0i64; 64];
     let mut numbers = [0u8; 64];
     let mut i: usize = 0;
-    while i < answered {
+    while i < head.count {
         let s = scenarios[i];
         let a = flat::answer_fields(s);
         let median_from = a.median_low;
@@ -38,8 +34,8 @@ pub fn answer_sheet(count: usize, scenarios: [Scenario; 64]) -> FlatSheet
         i += 1;
     }
     FlatSheet {
-        number,
-        count: answered,
+        number: head.number,
+        count: head.count,
         median_low,
         median_high,
         sigma_low,

@@ -5,11 +5,11 @@ use Prim.Native.Nat.{ℕ, _-_}
 use lib.Dec.{ltb}
 use lib.ListN.{take, replicate}
 use Rattle.scenario_theory.specs.declared.Scenario.{Scenario}
-use Rattle.scenario_theory.specs.Checks.{_when_}
 use Rattle.engine_theory.specs.declared.FlatAnswer.{FlatAnswer}
 use Rattle.engine_theory.specs.Evaluation.{answerOf}
 use Rattle.engine_theory.specs.Flat.{told}
 use Rattle.sheet_theory.specs.declared.FlatSheet.{FlatSheet}
+use Rattle.sheet_theory.specs.declared.SheetHead.{SheetHead}
 use Rattle.sheet_theory.specs.Promise.{sheetMost, noAnswer}
 
 module _ {A B : Type 0} where
@@ -22,23 +22,23 @@ module _ {B : Type 0} where
   abbrev pub column : (FlatAnswer → B) → ℕ → List Scenario → List B
   column field n scenarios = filled (λ s. field (told (answerOf s))) (field noAnswer) n scenarios
 
--- how many are answered: "more than 64 scenarios .. no place is then answered"
-abbrev pub answeredOf : ℕ → ℕ
-answeredOf count = cond (ltb sheetMost count) 0 count
+-- "14, more than 64 scenarios, checked before all else; .. the count is 0"; "14 then and 0 otherwise"
+abbrev pub headOf : ℕ → SheetHead
+headOf count = cond (ltb sheetMost count) (record { number = 14; count = 0 }) (record { number = 0; count = count })
 
--- the sheet whose first n scenarios are answered, with a number of its own
-abbrev pub sheetWith : ℕ → ℕ → List Scenario → FlatSheet
-sheetWith number n scenarios =
+-- the sheet with such a head: so many of the first scenarios are answered
+abbrev pub sheetWith : SheetHead → List Scenario → FlatSheet
+sheetWith head scenarios =
     record {
-      number = number;
-      count = n;
-      «median_low» = column (λ a. a .«median_low») n scenarios;
-      «median_high» = column (λ a. a .«median_high») n scenarios;
-      «sigma_low» = column (λ a. a .«sigma_low») n scenarios;
-      «sigma_high» = column (λ a. a .«sigma_high») n scenarios;
-      numbers = column (λ a. a .number) n scenarios;
+      number = head .number;
+      count = head .count;
+      «median_low» = column (λ a. a .«median_low») (head .count) scenarios;
+      «median_high» = column (λ a. a .«median_high») (head .count) scenarios;
+      «sigma_low» = column (λ a. a .«sigma_low») (head .count) scenarios;
+      «sigma_high» = column (λ a. a .«sigma_high») (head .count) scenarios;
+      numbers = column (λ a. a .number) (head .count) scenarios;
     }
 
--- "14, more than 64 scenarios, checked before all else"
+-- "Up to 64 scenarios are answered in one call, and the result holds the answers and their count"
 unfoldable pub sheetOf : ℕ → List Scenario → FlatSheet
-sheetOf count scenarios = sheetWith (14 when ltb sheetMost count) (answeredOf count) scenarios
+sheetOf count scenarios = sheetWith (headOf count) scenarios

@@ -14,3 +14,9 @@ pub struct FlatSheet {
     pub sigma_high: [i64; 64],
     pub numbers: [u8; 64],
 }
+
+// A sheet's own number and its count.
+pub struct SheetHead {
+    pub number: u8,
+    pub count: usize,
+}

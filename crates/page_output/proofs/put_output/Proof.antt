@@ -5,8 +5,8 @@ use native.Mathlib.Omega.{arith}
 use borrow.Author.Needs.{needs}
 use lib.ListN.{length}
 use lib.Seq.{length-take-le}
-use Rattle.page.proofs.put_output.Statement.{statement}
-use Rattle.page.proofs.put_output.Tie as tie
+use Rattle.page_output.proofs.put_output.Statement.{statement}
+use Rattle.page_output.proofs.put_output.Tie as tie
 
 -- what was read is within the bytes
 within : (g : tie.After-got) → g .got .given .0 .0 ≤ length (g .before .before .before .before .args .bytes .now)

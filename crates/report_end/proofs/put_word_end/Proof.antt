@@ -3,8 +3,8 @@ use mathlib.Core.Path.{refl}
 use native.Mathlib.Omega.{arith}
 use borrow.Author.Needs.{needs}
 use lib.ListN.{length-set}
-use Rattle.report.proofs.put_word_end.Statement.{statement}
-use Rattle.report.proofs.put_word_end.Tie as tie
+use Rattle.report_end.proofs.put_word_end.Statement.{statement}
+use Rattle.report_end.proofs.put_word_end.Tie as tie
 
 pub put-word-end-spec : {M : Type 1} → statement M
 put-word-end-spec =

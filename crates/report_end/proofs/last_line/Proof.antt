@@ -6,8 +6,8 @@ use Rattle.stores_theory.specs.Stores.{Put}
 use Rattle.stores_theory.proofs.StoreLaws.{put-then}
 use Rattle.report_theory.specs.Lines.{endBytes, lastLineOf}
 use Rattle.report_theory.proofs.LineLaws.{too-short, written}
-use Rattle.report.proofs.last_line.Statement.{statement}
-use Rattle.report.proofs.last_line.Tie as tie
+use Rattle.report_end.proofs.last_line.Statement.{statement}
+use Rattle.report_end.proofs.last_line.Tie as tie
 
 returns : tie.Need-returns-2
 unfolding lastLineOf
