@@ -63,9 +63,9 @@ def ln_pair(a, b, n):
         return negative(ln_pair(b, a, n))
     # "For whole a >= b >= 1 and fineness n >= 1, ln(a/b) has the lower sum
     # of 1/k for k from bn + 1 to an, and the upper sum of 1/k for k from bn
-    # to an - 1."
-    return Pair(reciprocal_sum(b * n + 1, a * n),
-                reciprocal_sum(b * n, a * n - 1))
+    # to an - 1."  They have all but their last and first terms in common.
+    common = reciprocal_sum(b * n + 1, a * n - 1)
+    return Pair(common + Fraction(1, a * n), common + Fraction(1, b * n))
 
 
 def root_pair(x, n):
@@ -112,6 +112,8 @@ def sub(p, q):
 def mul(p, q):
     """Return the product of two pairs."""
     # "A product runs from the least to the greatest of the four products."
+    if p.low >= 0 and q.low >= 0:
+        return Pair(p.low * q.low, p.high * q.high)
     products = [s * t for s in p for t in q]
     return Pair(min(products), max(products))
 

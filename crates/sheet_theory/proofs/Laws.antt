@@ -1,5 +1,5 @@
 -- A sheet as it is computed is as promised, and rests on the first scenarios alone.
-use mathlib.Core.Path.{_≡_, refl, ap}
+use mathlib.Core.Path.{_≡_, refl}
 use mathlib.Core.List.{List, map}
 use Prim.Native.Nat.{ℕ, _≤_, _<_}
 use native.Mathlib.Omega.{arith}
@@ -20,6 +20,11 @@ use Rattle.sheet_theory.specs.Promise.{sheetMost, noAnswer, answerAt, Pl
 use Rattle.sheet_theory.specs.Evaluation.{filled, column, headOf, sheetWith, sheetOf}
 use Rattle.sheet_theory.proofs.Filling.{filled-before, filled-after, filled-alike, filled-front}
 
+module _ {B : Type 0} where
+  -- a field of what the single call gives
+  abbrev pub fieldOf : (FlatAnswer → B) → Scenario → B
+  fieldOf field s = field (told (answerOf s))
+
 -- with more than 64 scenarios, and otherwise
 head-over : (count : ℕ) → sheetMost < count → headOf count ≡ record { number = 14; count = 0 }
 head-over count h = rw (lt-ltb sheetMost count h) refl
@@ -27,14 +32,11 @@ head-over count h = rw (lt-ltb sheetMost count h) refl
 head-within : (count : ℕ) → count ≤ sheetMost → headOf count ≡ record { number = 0; count = count }
 head-within count h = rw (le-ltb sheetMost count h) refl
 
--- no more are answered than there are places, and with up to 64 all of them
+-- no more are answered than there are places
 pub few : (count : ℕ) → headOf count .count ≤ sheetMost
 few count =
     by-test (ltb sheetMost count) (λ (h : SheetHead). h .count ≤ sheetMost) (λ t. omega arith)
     (λ t. nltb→le sheetMost count t)
-
-pub all-answered : (count : ℕ) → count ≤ sheetMost → headOf count .count ≡ count
-all-answered count h = ap (λ (head : SheetHead). head .count) (head-within count h)
 
 module _ (head : SheetHead) (xs : List Scenario) (there : head .count ≤ length xs) where
   -- an answer is at place i if each of its fields is there
@@ -52,11 +54,10 @@ module _ (head : SheetHead) (xs : List Scenario) (there : head .count ≤ length
 
   -- at a place before the count, and at one from it on
   before : (i : ℕ) (d : Scenario) → i < head .count → answerAt (sheetWith head xs) i ≡ told (answerOf (getD xs i d))
-  before i d h =
-      stands i _ (λ B field. filled-before (λ s. field (told (answerOf s))) (field noAnswer) (head .count) xs i d h there)
+  before i d h = stands i _ (λ B field. filled-before (fieldOf field) (field noAnswer) (head .count) xs i d h there)
 
   after : (i : ℕ) → head .count ≤ i → answerAt (sheetWith head xs) i ≡ noAnswer
-  after i h = stands i _ (λ B field. filled-after (λ s. field (told (answerOf s))) (field noAnswer) (head .count) xs i h there)
+  after i h = stands i _ (λ B field. filled-after (fieldOf field) (field noAnswer) (head .count) xs i h there)
 
 -- what equals what the single call gives keeps that call's promise
 single : (s : Scenario) (a : FlatAnswer) → a ≡ told (answerOf s) → PlacePromise s a
@@ -92,7 +93,7 @@ with-alike head xs ys e =
     ) refl
   where
     same : {B : Type 0} (field : FlatAnswer → B) → column field (head .count) xs ≡ column field (head .count) ys
-    same field = filled-alike (λ s. field (told (answerOf s))) (field noAnswer) (head .count) xs ys e
+    same field = filled-alike (fieldOf field) (field noAnswer) (head .count) xs ys e
 
 -- scenarios from the count on are not looked at
 pub sheet-alike : (count : ℕ) (xs ys : List Scenario) → take (headOf count .count) xs ≡ take (headOf count .count) ys →

@@ -14,7 +14,7 @@ use Rattle.sheet_theory.specs.declared.SheetHead.{SheetHead}
 use Rattle.sheet_theory.specs.Promise.{sheetMost, noAnswer}
 use Rattle.sheet_theory.specs.Evaluation.{filled, column, headOf, sheetWith, sheetOf}
 use Rattle.sheet_theory.proofs.Filling.{filled-next}
-use Rattle.sheet_theory.proofs.Laws.{few}
+use Rattle.sheet_theory.proofs.Laws.{fieldOf, few}
 
 -- a sheet of its parts, in their order
 abbrev pub sheet : ℕ → ℕ → List ℤ → List ℤ → List ℤ → List ℤ → List ℕ → FlatSheet
@@ -74,7 +74,7 @@ next head i xs d room there =
   where
     at : {B : Type 0} (field : FlatAnswer → B) →
         set (column field i xs) i (field (told (answerOf (getD xs i d)))) ≡ column field (i + 1) xs
-    at field = filled-next (λ s. field (told (answerOf s))) (field noAnswer) i xs d room there refl
+    at field = filled-next (fieldOf field) (field noAnswer) i xs d room there refl
 
 -- a turn stores the fields of the next scenario's answer, a
 pub next-turn : {count : ℕ} {xs : List Scenario} {head : SheetHead} {i : ℕ} {ml mh sl sh : List ℤ} {ks : List ℕ}
