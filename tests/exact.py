@@ -112,6 +112,7 @@ def sub(p, q):
 def mul(p, q):
     """Return the product of two pairs."""
     # "A product runs from the least to the greatest of the four products."
+    # Of pairs that are not below zero these are the first and the last.
     if p.low >= 0 and q.low >= 0:
         return Pair(p.low * q.low, p.high * q.high)
     products = [s * t for s in p for t in q]

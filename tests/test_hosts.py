@@ -690,11 +690,11 @@ def python_faults(fusnoch):
         yield wrong
 
 
-def check_python(path):
-    """Return the faults of the wrapper beside a Python host."""
+def check_python(path, faults_of):
+    """Return the faults of the wrapper beside a Python host, which a function yields."""
     sys.path.insert(0, os.path.dirname(os.path.abspath(path)))
     try:
-        return [f'Python: {fault}' for fault in python_faults(importlib.import_module('fusnoch'))]
+        return [f'Python: {fault}' for fault in faults_of(importlib.import_module('fusnoch'))]
     except Exception as error:  # no summary would be printed
         return [f'Python: fusnoch.py cannot be tried: {error!r}']
 
@@ -703,13 +703,21 @@ def check_python(path):
 # The run
 # ---------------------------------------------------------------------------
 
+def command_line(words, about, *numbers):
+    """Return the ASKs and the other programs by host, and the numbers, as given or as they are unless given.
+
+    What is no such command line ends the program, with the third line of what is said about it.
+    """
+    if len(words) not in (7, 8, 9) or not all(word.isdecimal() for word in words[7:]):
+        print(about.split('\n')[2], file=sys.stderr)
+        sys.exit(2)
+    given = [int(word) for word in words[7:]]
+    return dict(zip(HOSTS, words[1:4])), dict(zip(HOSTS, words[4:7])), *given, *numbers[len(given):]
+
+
 def main(words):
     """Read the command line, run the checks and print the first faults and a summary."""
-    if len(words) not in (7, 8, 9) or not all(word.isdecimal() for word in words[7:]):
-        print(__doc__.split('\n')[2], file=sys.stderr)
-        return 2
-    asks, spectra = dict(zip(HOSTS, words[1:4])), dict(zip(HOSTS, words[4:7]))
-    count, seed = map(int, words[7:] + [COUNT, SEED][len(words) - 7:])
+    asks, spectra, count, seed = command_line(words, __doc__, COUNT, SEED)
     rng = random.Random(seed)
     answers, asked, small = Answers(), all_questions(rng, count), small_questions()
     flags = flag_questions(rng, FLAGGED)
@@ -717,7 +725,7 @@ def main(words):
     faults += check_flags(answers, asks['C'], flags)
     faults += check_memory(answers, asks, small)
     faults += check_spectra(answers, spectra)
-    faults += check_python(asks['Python'])
+    faults += check_python(asks['Python'], python_faults)
     faults += answers.tally.faults
     for fault in faults[:FAULTS_SHOWN]:
         print(f'FAILED {fault}')

@@ -26,11 +26,9 @@ wrapper fusnoch.py.  COUNT is how many sheets are drawn, 1,000 unless given, bes
 """
 
 import ctypes
-import importlib
-import os
 import random
 import sys
-from functools import lru_cache
+from functools import lru_cache, partial
 from itertools import chain, product, zip_longest
 from typing import NamedTuple, Tuple
 
@@ -40,7 +38,8 @@ from records import (BOORE_ATKINSON, IDRISS, NO_DISTANCES, OTHER_DISTANCE, OWN_D
 from streams import WHOLE, Stream
 from test_answers import draw_scenario, due_for_scenario, of_each_period, turned_away
 from test_enclosures import Tally, line_fault
-from test_hosts import HOSTS, VALGRIND, WATCHED, WORDS, in_python, numbers_in, raised, refusal_words
+from test_hosts import (HOSTS, VALGRIND, WATCHED, WORDS, check_python, command_line, in_python, numbers_in, raised,
+                        refusal_words)
 from test_records import text
 
 COUNT = 1000
@@ -674,26 +673,13 @@ def python_faults(asked, in_structs, fusnoch):
     yield from struct_faults(fusnoch, in_structs)
 
 
-def check_python(path, asked, in_structs):
-    """Return the faults of the wrapper beside a Python host."""
-    sys.path.insert(0, os.path.dirname(os.path.abspath(path)))
-    try:
-        return [f'Python: {fault}' for fault in python_faults(asked, in_structs, importlib.import_module('fusnoch'))]
-    except Exception as error:  # no summary would be printed
-        return [f'Python: fusnoch.py cannot be tried: {error!r}']
-
-
 # ---------------------------------------------------------------------------
 # The run
 # ---------------------------------------------------------------------------
 
 def main(words):
     """Read the command line, run the checks and print the first faults and a summary."""
-    if len(words) not in (7, 8, 9) or not all(word.isdecimal() for word in words[7:]):
-        print(__doc__.split('\n')[2], file=sys.stderr)
-        return 2
-    asks, pages = dict(zip(HOSTS, words[1:4])), dict(zip(HOSTS, words[4:7]))
-    count, seed = map(int, words[7:] + [COUNT, SEED][len(words) - 7:])
+    asks, pages, count, seed = command_line(words, __doc__, COUNT, SEED)
     rng, tally = random.Random(seed), Tally()
     asked, alone, few = all_questions(rng, count)
     single, faults = check_asks(asks, asked, alone)
@@ -703,7 +689,8 @@ def main(words):
     faults += seen_faults(asked + alone['C'] + alone['Rust'], few)
     # A wrapper with a wrong struct could end this program, and nothing would be printed.
     if not faults:
-        faults += check_python(asks['Python'], few['Rust'] + rng.sample(asked, TRIED), places_alone(rng, alone['C']))
+        tried, in_structs = few['Rust'] + rng.sample(asked, TRIED), places_alone(rng, alone['C'])
+        faults += check_python(asks['Python'], partial(python_faults, tried, in_structs))
     for fault in faults[:FAULTS_SHOWN]:
         print(f'FAILED {fault}')
     print(f'sheets: seed {seed}, {len(asked)} sheets of {sum(question.count for question in asked)} scenarios to each '
