@@ -9,8 +9,9 @@ ghost use Rattle.scenario_theory.specs.Accepted.{Placed, PlacedOn};
 ghost use Rattle.record_theory.specs.Outcome.{scenarioIn, readRefusal};
 ghost use Rattle.engine_theory.specs.Promise.{AnswerPromise, NextPromise, DoublesPromise};
 ghost use Rattle.engine_theory.specs.Steps.{enclosureOn, firstIn, lastIn, idrissRowsOf, booreAtkinsonRowsOf};
-ghost use Rattle.engine_theory.specs.Evaluation.{idrissEnclosureOf, booreAtkinsonEnclosureOf, answerOf};
-ghost use Rattle.engine_theory.specs.Evaluation.{recordAnswerOf, nextOf, inDoubles};
+ghost use Rattle.idriss_theory.specs.Tables.{tableFor};
+ghost use Rattle.engine_theory.specs.Evaluation.{idrissMedianEnds, idrissEnclosureOf, booreAtkinsonEnclosureOf};
+ghost use Rattle.engine_theory.specs.Evaluation.{answerOf, recordAnswerOf, nextOf, inDoubles};
 use doubles::as_doubles;
 pub use engine_theory::Answer;
 pub use engine_theory::Doubles;
@@ -20,6 +21,7 @@ pub use engine_theory::NextAnswer;
 use interpolation::interpolated;
 use interpolation_theory::TwoRows;
 use interval::ends;
+use interval_theory::SignedEnds;
 use record_theory::BasedReading;
 use row_neighbours::boore_atkinson_neighbours;
 use row_neighbours::idriss_neighbours;
@@ -50,44 +52,26 @@ fn last_row(place: Place) -> usize
     }
 }
 
-// By Idriss between row k and the next, with the medians by these.
-fn between_idriss(
+// The median of Idriss at a place, by those of its rows.
+fn idriss_median(
     magnitude: u16,
     distance: RuptureDistance,
     velocity: u16,
     mechanism: u8,
     period: u16,
-    k: usize,
+    place: Place,
     rows: TwoRows,
-) -> Enclosure
-    requires { ⌜ Placed idriss idrissRow magnitude (distance .0) velocity mechanism period (P.Between k) ⌝ }
-    requires { ⌜ rows ≡ idrissRowsOf magnitude (distance .0) velocity mechanism k (k + 1) ⌝ }
-    ensures { λ r. ⌜ r ≡ idrissEnclosureOf magnitude (distance .0) velocity mechanism period ⌝ }
+) -> SignedEnds
+    requires { ⌜ Placed idriss idrissRow magnitude (distance .0) velocity mechanism period place ⌝ }
+    requires { ⌜ rows ≡ idrissRowsOf magnitude (distance .0) velocity mechanism (firstIn place) (lastIn place) ⌝ }
+    ensures { λ r. ⌜ r ≡ idrissMedianEnds (tableFor magnitude) magnitude (distance .0) velocity mechanism period ⌝ }
 {
-    let step = period_step::step(idriss_neighbours(k), period);
-    Enclosure {
-        median: interpolated(rows.lower, rows.upper, step.part, step.whole),
-        sigma: idriss_sigma::sigma_between(period, magnitude),
-    }
-}
-
-// By Idriss at row k, with the median by it.
-fn at_idriss_row(
-    magnitude: u16,
-    distance: RuptureDistance,
-    velocity: u16,
-    mechanism: u8,
-    period: u16,
-    k: usize,
-    rows: TwoRows,
-) -> Enclosure
-    requires { ⌜ Placed idriss idrissRow magnitude (distance .0) velocity mechanism period (P.Row k) ⌝ }
-    requires { ⌜ rows ≡ idrissRowsOf magnitude (distance .0) velocity mechanism k k ⌝ }
-    ensures { λ r. ⌜ r ≡ idrissEnclosureOf magnitude (distance .0) velocity mechanism period ⌝ }
-{
-    Enclosure {
-        median: ends(rows.upper),
-        sigma: idriss_sigma::sigma(k, period, magnitude),
+    match place {
+        Place::Row(_) => ends(rows.upper),
+        Place::Between(k) => {
+            let step = period_step::step(idriss_neighbours(k), period);
+            interpolated(rows.lower, rows.upper, step.part, step.whole)
+        }
     }
 }
 
@@ -111,17 +95,17 @@ fn by_idriss(
         velocity,
         mechanism,
     );
-    match place {
-        Place::Row(k) => at_idriss_row(magnitude, distance, velocity, mechanism, period, k, rows),
-        Place::Between(k) => between_idriss(
+    Enclosure {
+        median: idriss_median(
             magnitude,
             distance,
             velocity,
             mechanism,
             period,
-            k,
+            place,
             rows,
         ),
+        sigma: idriss_sigma::sigma(period, magnitude),
     }
 }
 

@@ -18,9 +18,8 @@ use Rattle.scenario_theory.specs.Neighbours.{neighbourBelow, neighbourAbove}
 use Rattle.scenario_theory.specs.Rows.{idrissRow, booreAtkinsonRow}
 use Rattle.scenario_theory.specs.Accepted.{Placed, BasisIn}
 use Rattle.scenario_theory.proofs.RowLaws.{idriss-row, boore-atkinson-row}
-use Rattle.idriss_theory.specs.Tables.{takesTable3}
+use Rattle.idriss_theory.specs.Tables.{takesTable3, tableFor}
 use Rattle.idriss_theory.specs.Evaluation.{medianOf as idrissMedianOf, medianBetweenOf as idrissBetweenOf}
-use Rattle.idriss_theory.specs.Evaluation.{sigmaOf as idrissSigmaOf}
 use Rattle.idriss_theory.proofs.Rows.{row-at as idriss-row-at}
 use Rattle.idriss_theory.proofs.Accepted.{median-domain as idriss-median-domain}
 use Rattle.idriss_theory.proofs.Laws.{medianPairOf-sized as idriss-sized}
@@ -34,7 +33,7 @@ use Rattle.boore_atkinson_theory.proofs.Laws.{medianPairOf-sized as boore-atkin
 use Rattle.boore_atkinson_theory.proofs.Between.{between-takes as boore-atkinson-takes, sigma-takes}
 use Rattle.engine_theory.specs.declared.Enclosure.{Enclosure}
 use Rattle.engine_theory.specs.Steps.{enclosureOn, stepAround, idrissRowsOf, booreAtkinsonRowsOf}
-use Rattle.engine_theory.specs.Evaluation.{idrissEnclosureOf, booreAtkinsonEnclosureOf, enclosureOf}
+use Rattle.engine_theory.specs.Evaluation.{idrissMedianEnds, booreAtkinsonEnclosureOf, enclosureOf}
 use Rattle.engine_theory.proofs.RowLaws.{idriss-tabled, boore-atkinson-tabled, placed-at-row}
 use Rattle.engine_theory.proofs.RowLaws.{placed-on-step, not-first}
 
@@ -65,10 +64,8 @@ module _ {M R Vs mechanism T k : ℕ} where
         moderate (idriss-sized (takesTable3 M) mechanism d) (omega arith)
 
     pub idriss-at-row :
-        _≡_ {A = Enclosure}
-        record { median = endsOf (idrissRowsOf M R Vs mechanism k k .upper); sigma = idrissSigmaOf T M }
-        (idrissEnclosureOf M R Vs mechanism T)
-    unfolding idrissEnclosureOf idrissMedianOf twoRowsOf
+        endsOf (idrissRowsOf M R Vs mechanism k k .upper) ≡ idrissMedianEnds (tableFor M) M R Vs mechanism T
+    unfolding idrissMedianOf twoRowsOf
     idriss-at-row =
         let r = placed-at-row t in
         rw (r .0, r .1, idriss-row-at (takesTable3 M) T) refl
@@ -87,12 +84,9 @@ module _ {M R Vs mechanism T k : ℕ} where
 
     pub idriss-between-rows :
         let step = stepAround idriss T in
-        _≡_ {A = Enclosure}
-        record {
-          median = interpolatedOf (rows .lower) (rows .upper) (step .part) (step .whole);
-          sigma = idrissSigmaOf T M;
-        } (idrissEnclosureOf M R Vs mechanism T)
-    unfolding idrissEnclosureOf idrissBetweenOf
+        interpolatedOf (rows .lower) (rows .upper) (step .part) (step .whole) ≡
+        idrissMedianEnds (tableFor M) M R Vs mechanism T
+    unfolding idrissBetweenOf
     idriss-between-rows =
         let r = placed-on-step idriss-tabled t in
         let b = takesTable3 M in

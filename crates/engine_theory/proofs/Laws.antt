@@ -1,5 +1,7 @@
 -- The promise of an answer, for every scenario, whatever number of a check it is by: demand 3.
-use mathlib.Core.Path.{_≡_, refl, ap, _∙_}
+use mathlib.Core.Path.{_≡_, refl, sym, ap, _∙_}
+use mathlib.Core.List.{[], _∷_}
+use mathlib.Core.Logic.{⊎-elim}
 use Prim.Native.Nat.{ℕ, zero, suc}
 use native.Mathlib.Omega.{arith}
 use Rattle.scenario_theory.specs.declared.Scenario.{Scenario}
@@ -9,15 +11,19 @@ use Rattle.scenario_theory.specs.Refusal.{refusalOf}
 use Rattle.scenario_theory.specs.Accepted.{checkOf}
 use Rattle.scenario_theory.proofs.CheckLaws.{is-refused}
 use Rattle.scenario_theory.proofs.CheckedLaws.{passed, failed}
+use Rattle.scenario_theory.proofs.RefusalLaws.{of-model}
+use Rattle.idriss_theory.specs.Evaluation.{clampedPeriod, sigmaOf as idrissSigmaOf}
+use Rattle.idriss_theory.proofs.SigmaLaws.{by-clamped}
 use Rattle.engine_theory.specs.declared.Enclosure.{Enclosure}
 use Rattle.engine_theory.specs.declared.Answer.{Answer}
 use Rattle.engine_theory.specs.declared.Doubles.{Doubles}
 use Rattle.engine_theory.specs.declared.DoublesAnswer.{DoublesAnswer}
 use Rattle.engine_theory.specs.declared.DoublesAnswer.the-variants as D
 use Rattle.engine_theory.specs.declared.Answer.the-variants as A
-use Rattle.engine_theory.specs.Promise.{AnswerPromise, DoublesPromise}
+use Rattle.engine_theory.specs.Promise.{AnswerPromise, sigmaEnds, SameSigma, DoublesPromise}
 use Rattle.engine_theory.specs.Ranges.{AnswerInRange}
-use Rattle.engine_theory.specs.Evaluation.{answerBy, answerOf, SmallAnswer, doublesOf, inDoubles}
+use Rattle.engine_theory.specs.Evaluation.{idrissEnclosureOf, enclosureOf, answerBy, answerOf, SmallAnswer}
+use Rattle.engine_theory.specs.Evaluation.{doublesOf, inDoubles}
 use Rattle.engine_theory.specs.Steps.{enclosureOn}
 use Rattle.engine_theory.proofs.Exact.{equals}
 use Rattle.engine_theory.proofs.ModelLaws.{sound}
@@ -74,7 +80,26 @@ module _ (s : Scenario) where
   fields-enclosed {b} c same =
       let r = passed s c in rw (r .accepted) (ap A.Enclosed (same ∙ on-basis s b (r .basis)))
 
--- ---- and the same in doubles
+-- ---- of two answers by Idriss
+
+-- sigma's ends go by period and magnitude alone
+by-period-and-magnitude : (s : Scenario) → s .model ≡ 1 → refusalOf s ≡ 0 →
+    let e = idrissSigmaOf (s .period) (s .magnitude) in
+    sigmaEnds (answerOf s) ≡ e .low ∷ e .high ∷ []
+unfolding answerOf answerBy enclosureOf idrissEnclosureOf
+by-period-and-magnitude s model accepted =
+    ⊎-elim (λ p. rw (accepted, model, p .1 .reads) refl) (λ p. absurd (omega (arith, p .0))) (of-model s accepted)
+
+-- and by these as they are clamped
+pub same-sigma : SameSigma answerOf
+same-sigma s t s-idriss t-idriss s-accepted t-accepted magnitude periods =
+    let period : clampedPeriod (s .period) ≡ clampedPeriod (t .period) =
+    ⊎-elim (λ p. omega (arith, p .0, p .1)) (λ p. omega (arith, p .0, p .1)) periods in
+    let alike : idrissSigmaOf (s .period) (s .magnitude) ≡ idrissSigmaOf (t .period) (t .magnitude) =
+    by-clamped _ _ ∙ rw (period, magnitude) (sym (by-clamped _ _)) in
+    rw (by-period-and-magnitude s s-idriss s-accepted, by-period-and-magnitude t t-idriss t-accepted, alike) refl
+
+-- ---- an answer in doubles
 
 pub enclosed-in-doubles : {d : Doubles} {e : Enclosure} {a : Answer} → d ≡ doublesOf e → A.Enclosed e ≡ a →
     D.Enclosed d ≡ inDoubles a

@@ -11,7 +11,6 @@ use lib.Dec.{eqb}
 use lib.IntN.{ℤ, pos, _+ℤ_}
 use lib.Signed.{_≤ℤ_}
 use Rattle.toolbox_theory.specs.Whole.{up, down}
-use Rattle.toolbox_theory.proofs.Tests.{by-test}
 use Rattle.toolbox_theory.proofs.Whole.{≤ℤ-in, ≤ℤ-trans, add-is, within-more}
 use Rattle.exact_theory.specs.Pair.{Pair}
 use Rattle.exact_theory.specs.Formula.{Formula, Defined, ends, Encloses}
@@ -47,8 +46,8 @@ use Rattle.boore_atkinson_theory.proofs.Ranges.{medianOf-reaches as boore-atkin
 use Rattle.boore_atkinson_theory.proofs.Between.{medianBetweenOf-promise, sigmaBetweenOf-promise}
 use Rattle.engine_theory.specs.declared.Enclosure.{Enclosure}
 use Rattle.engine_theory.specs.Models.{undefined, idrissMedianBy, median, sigma, idrissWidth, booreAtkinsonWidth}
-use Rattle.engine_theory.specs.Models.{widthAt, medianWidth, idrissSigmaWidth, sigmaBetweenWidth, sigmaWidth}
-use Rattle.engine_theory.specs.Models.{booreAtkinsonMedianBy, booreAtkinsonSigmaBy}
+use Rattle.engine_theory.specs.Models.{widthAt, medianWidth, idrissSigmaWidth, booreAtkinsonSigmaWidth}
+use Rattle.engine_theory.specs.Models.{sigmaWidth, booreAtkinsonMedianBy, booreAtkinsonSigmaBy}
 use Rattle.engine_theory.specs.Promise.{EnclosedWithin}
 use Rattle.engine_theory.specs.Ranges.{medianLeast, medianMost, InRange}
 use Rattle.engine_theory.specs.Evaluation.{idrissMedianEnds, booreAtkinsonMedianEnds}
@@ -130,13 +129,10 @@ module _ (s : Scenario) where
         (idriss-between-promise isTable3 (s .mechanism) d (b .step)) in
         median-ends (between-ends (2 * idrissWidth) (omega arith) m) (omega arith) (omega arith) (m .reaches))
 
-    idriss-sigma : Ends (cond (hasRow idriss T) idrissSigmaWidth sigmaBetweenWidth) (idrissSigma T (s .magnitude))
-        (idrissSigmaOf T (s .magnitude))
-    idriss-sigma =
-        let g = idriss-sigma-promise T (s .magnitude) in
-        let width : idrissPromise.sigmaWidth ≤ cond (hasRow idriss T) idrissSigmaWidth sigmaBetweenWidth =
-        by-test (hasRow idriss T) (λ w. idrissPromise.sigmaWidth ≤ w) (λ _. omega arith) (λ _. omega arith) in
-        ends-of _ idrissPromise.sigmaWidth _ width (g .encloses) (g .narrow) (g .small)
+  idriss-sigma : Ends idrissSigmaWidth (idrissSigma T (s .magnitude)) (idrissSigmaOf T (s .magnitude))
+  idriss-sigma =
+      let g = idriss-sigma-promise T (s .magnitude) in
+      ends-of _ idrissPromise.sigmaWidth idrissSigmaWidth (omega arith) (g .encloses) (g .narrow) (g .small)
 
   module _ {R : ℕ} (w : Within booreAtkinson (s .magnitude) R (s .velocity) (s .mechanism) (s .period)) where
     boore-atkinson-median : MedianEnds (widthAt booreAtkinson T booreAtkinsonWidth) (booreAtkinsonMedianBy R s)
@@ -158,7 +154,7 @@ module _ (s : Scenario) where
         (medianBetweenOf-promise (s .mechanism) (not-first (b .rows)) d (b .step)) in
         median-ends (between-ends (2 * booreAtkinsonWidth) (omega arith) m) (omega arith) (omega arith) (m .reaches))
 
-    boore-atkinson-sigma : Ends (cond (hasRow booreAtkinson T) 0 sigmaBetweenWidth) (booreAtkinsonSigmaBy s)
+    boore-atkinson-sigma : Ends (cond (hasRow booreAtkinson T) 0 booreAtkinsonSigmaWidth) (booreAtkinsonSigmaBy s)
         (booreAtkinsonSigmaEnds (s .mechanism) T)
     boore-atkinson-sigma =
         by-tabled Ends (hasRow booreAtkinson T)
@@ -172,7 +168,7 @@ module _ (s : Scenario) where
         let g =
         rw (← b .rows .next, ← total-at T1, ← total-at T2) at
         (sigmaBetweenOf-promise (s .mechanism) (not-first (b .rows)) (b .last) (b .step)) in
-        between-ends sigmaBetweenWidth (omega arith) g)
+        between-ends booreAtkinsonSigmaWidth (omega arith) g)
 
 -- ---- the four ends of an accepted scenario
 
@@ -202,7 +198,7 @@ module _ (s : Scenario) where
       let e = idrissEnclosureOf (s .magnitude) (w .distance) (s .velocity) (s .mechanism) (s .period) in
       sound-by (at-distance (w .distance)) e (rw (model, w .reads) refl)
       (rw (model, w .reads) refl)
-      (rw model (idriss-median s (w .within) (takesTable3 (s .magnitude)))) (rw model (idriss-sigma s (w .within)))
+      (rw model (idriss-median s (w .within) (takesTable3 (s .magnitude)))) (rw model (idriss-sigma s))
 
   boore-atkinson-sound : s .model ≡ 2 → WithinBy booreAtkinson s → Sound s (enclosureOf s)
   unfolding median sigma medianWidth sigmaWidth enclosureOf booreAtkinsonEnclosureOf

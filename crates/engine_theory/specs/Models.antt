@@ -80,16 +80,15 @@ unfoldable pub medianWidth : Scenario → ℕ
 medianWidth s =
     byModel s (widthAt idriss (s .period) idrissWidth) (widthAt booreAtkinson (s .period) booreAtkinsonWidth)
 
--- "at most 10 units apart" (demand 3)
+-- "at most 10 units apart" (demand 3), "between rows too" (W-205)
 abbrev pub idrissSigmaWidth : ℕ
 idrissSigmaWidth = 10
 
 -- "and 20 units for sigma" between rows (W-201)
-abbrev pub sigmaBetweenWidth : ℕ
-sigmaBetweenWidth = 20
+abbrev pub booreAtkinsonSigmaWidth : ℕ
+booreAtkinsonSigmaWidth = 20
 
 -- and those of sigma; by a row of Boore-Atkinson "Its two ends are equal" ('Boore-Atkinson on rock')
 unfoldable pub sigmaWidth : Scenario → ℕ
 sigmaWidth s =
-    byModel s (cond (hasRow idriss (s .period)) idrissSigmaWidth sigmaBetweenWidth)
-    (cond (hasRow booreAtkinson (s .period)) 0 sigmaBetweenWidth)
+    byModel s idrissSigmaWidth (cond (hasRow booreAtkinson (s .period)) 0 booreAtkinsonSigmaWidth)

@@ -3,13 +3,16 @@
 use mathlib.Core.Path.{_≡_}
 use mathlib.Core.Bool.{true, false}
 use mathlib.Core.List.{List, [], _∷_}
-use Prim.Native.Nat.{ℕ, suc}
+use mathlib.Core.Logic.{_⊎_}
+use Prim.Native.Nat.{ℕ, suc, _≤_}
 use lib.IntN.{ℤ, pos, negsuc, _+ℤ_}
+use lib.ListN.{drop}
 use lib.Signed.{_≤ℤ_}
 use lib.Ieee.{Float}
 use lib.Ieee.Exact.{HasValue}
 use Rattle.exact_theory.specs.Formula.{Formula, ends, Encloses}
 use Rattle.scenario_theory.specs.declared.Scenario.{Scenario}
+use Rattle.scenario_theory.specs.Refusal.{refusalOf}
 use Rattle.record_theory.specs.Outcome.{scenarioIn, readRefusal, restAt}
 use Rattle.engine_theory.specs.declared.Answer.{Answer}
 use Rattle.engine_theory.specs.declared.Answer.the-variants as A
@@ -57,6 +60,20 @@ pub record AnswerPromise (k : ℕ) (s : Scenario) (a : Answer) : Type 0 where
   pub number : answerNumber a ≡ k
   pub enclosed : k ≡ 0 → EnclosesBoth s (answerValues a)
   pub refused : (k ≡ 0 → ⊥) → answerValues a ≡ []
+
+-- ---- of two answers by Idriss
+
+-- the third and the fourth value
+abbrev pub sigmaEnds : Answer → List ℤ
+sigmaEnds a = drop 2 (answerValues a)
+
+-- "at one magnitude all accepted periods up to 50 give the same sigma ends, as do all from 3000 on" (W-205), whatever
+-- the other fields are
+abbrev pub SameSigma : (Scenario → Answer) → Type 0
+SameSigma answer =
+    (s t : Scenario) → s .model ≡ 1 → t .model ≡ 1 → refusalOf s ≡ 0 → refusalOf t ≡ 0 → s .magnitude ≡ t .magnitude →
+    ((s .period ≤ 50) × (t .period ≤ 50)) ⊎ ((3_000 ≤ s .period) × (3_000 ≤ t .period)) →
+    sigmaEnds (answer s) ≡ sigmaEnds (answer t)
 
 -- ---- of the record at the front of some bytes, with its length
 

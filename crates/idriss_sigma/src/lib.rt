@@ -1,11 +1,12 @@
 // Sigma of Idriss 2014, by two ends that enclose the exact value, in units of 10^-9.
 ghost use mathlib.Core.Path.{_≡_};
-ghost use Prim.Native.Nat.{_≤_};
-ghost use Rattle.scenario_theory.specs.Rows.{idrissRow};
+ghost use Prim.Native.Nat.{_≤_, _<_};
+ghost use Rattle.interval_theory.specs.Bound.{Sized};
+ghost use Rattle.logarithm_theory.specs.Promise.{LnDomain};
 ghost use Rattle.idriss_theory.specs.Sigma.{clamp};
-ghost use Rattle.idriss_theory.specs.Promise.{SigmaDomain, SigmaEnds};
-ghost use Rattle.idriss_theory.specs.Evaluation.{clampedPeriod, periodLnOf, sigmaOf};
-use idriss_tables as table;
+ghost use Rattle.idriss_theory.specs.Promise.{SigmaEnds};
+ghost use Rattle.idriss_theory.specs.Evaluation.{clampedPeriod, periodTermOf, sigmaOf};
+ghost use Rattle.idriss_theory.specs.Sizes.{periodTermMost};
 use interval_theory::Ends;
 use interval_theory::SignedEnds;
 
@@ -23,50 +24,45 @@ fn clamp(low: u16, high: u16, x: u16) -> u16
     x
 }
 
-// The absolute value of ln T, T clamped, of a period that has row k: it stands in the list.
-fn listed_ln(k: usize, period: u16) -> Ends
-    requires { ⌜ SigmaDomain period × (k ≡ idrissRow period) ⌝ }
-    ensures { λ l. ⌜ l ≡ periodLnOf (clampedPeriod period) ⌝ }
+// 0.035 ln(a/b), by the engine's own logarithm.
+fn period_term(a: u64, b: u64) -> Ends
+    requires { ⌜ LnDomain a b ⌝ }
+    ensures { λ r. ⌜ (r ≡ periodTermOf a b) × Sized r 2 periodTermMost ⌝ }
 {
-    table::period_logarithm(clamp(4, 17, k as u16) as usize)
+    interval::multiple(700_000, logarithm::ln(a, b))
 }
 
-// The same of any period, by the engine's own logarithm.
-fn period_ln(period: u16) -> Ends
-    ensures { λ l. ⌜ l ≡ periodLnOf (clampedPeriod period) ⌝ }
+// 0.035 ln(1/T), T below 1 s, and 0.035 ln T, T from 1 s on, T clamped. The compiler works out that of a limit.
+fn shorter_term(period: u16) -> Ends
+    requires { ⌜ period < 1_000 ⌝ }
+    ensures { λ r. ⌜ (r ≡ periodTermOf 1_000 (clampedPeriod period)) × Sized r 2 periodTermMost ⌝ }
 {
-    let t = clamp(50, 3_000, period) as u64;
-    logarithm::ln(order::max(t, 1_000), order::min(t, 1_000))
+    if period <= 50 {
+        return period_term(1_000, 50);
+    }
+    period_term(1_000, period as u64)
 }
 
-// 1.18 + 0.035 ln T − 0.06 M, by the absolute value of ln T, T clamped.
-fn sigma_by(l: Ends, period: u16, magnitude: u16) -> SignedEnds
-    requires { ⌜ l ≡ periodLnOf (clampedPeriod period) ⌝ }
+fn longer_term(period: u16) -> Ends
+    requires { ⌜ 1_000 ≤ period ⌝ }
+    ensures { λ r. ⌜ (r ≡ periodTermOf (clampedPeriod period) 1_000) × Sized r 2 periodTermMost ⌝ }
+{
+    if 3_000 <= period {
+        return period_term(3_000, 1_000);
+    }
+    period_term(period as u64, 1_000)
+}
+
+// 1.18 + 0.035 ln T − 0.06 M at any period and magnitude.
+pub fn sigma(period: u16, magnitude: u16) -> SignedEnds
     ensures { λ r. ⌜ r ≡ sigmaOf period magnitude ⌝ }
     ensures { λ r. ⌜ SigmaEnds period magnitude r ⌝ }
 {
     let m = 600_000 * clamp(500, 750, magnitude) as u64;
-    let t = clamp(50, 3_000, period);
-    let term = interval::multiple(700_000, l);
-    if t < 1_000 {
+    if period < 1_000 {
+        let term = shorter_term(period);
         return interval::between(1_180_000_000, m + term.high, 1_180_000_000, m + term.low);
     }
+    let term = longer_term(period);
     interval::between(1_180_000_000 + term.low, m, 1_180_000_000 + term.high, m)
-}
-
-// Sigma at a period T that has row k.
-pub fn sigma(k: usize, period: u16, magnitude: u16) -> SignedEnds
-    requires { ⌜ SigmaDomain period × (k ≡ idrissRow period) ⌝ }
-    ensures { λ r. ⌜ r ≡ sigmaOf period magnitude ⌝ }
-    ensures { λ r. ⌜ SigmaEnds period magnitude r ⌝ }
-{
-    sigma_by(listed_ln(k, period), period, magnitude)
-}
-
-// Sigma at any period T.
-pub fn sigma_between(period: u16, magnitude: u16) -> SignedEnds
-    ensures { λ r. ⌜ r ≡ sigmaOf period magnitude ⌝ }
-    ensures { λ r. ⌜ SigmaEnds period magnitude r ⌝ }
-{
-    sigma_by(period_ln(period), period, magnitude)
 }

@@ -1,6 +1,6 @@
-// The coefficients of Tables 2 and 3 as constant tables, a row for each period, with the printed digits, the logarithms
-// of the periods, and which table a magnitude takes. The compiler stores a const array on the stack unless it knows
-// every place that is read; it unrolls the loop that looks for a row, and so reads constant data.
+// The coefficients of Tables 2 and 3 as constant tables, a row for each period, with the printed digits, and which table
+// a magnitude takes. The compiler stores a const array on the stack unless it knows every place that is read; it unrolls
+// the loop that looks for a row, and so reads constant data.
 ghost use mathlib.Core.Path.{_≡_};
 ghost use mathlib.Core.Bool.{cond};
 ghost use mathlib.Core.List.{map};
@@ -8,9 +8,7 @@ ghost use Prim.Native.Nat.{_<_};
 ghost use Rattle.scenario_theory.specs.Rows.{rowCount};
 ghost use Rattle.idriss_theory.specs.Tables.{table2, table3, takesTable3};
 ghost use Rattle.idriss_theory.specs.Rows.{rowAt, parts, RowLimits};
-ghost use Rattle.idriss_theory.specs.Periods.{listedAt};
 use idriss_theory::Row;
-use interval_theory::Ends;
 
 // Table 2, M up to and including 6.75: α1, −α1, α2, −α2, α3, −α3, β1, −β2, −ξ, −γ, φ.
 const TABLE_2: [Row; 22] = [
@@ -98,100 +96,6 @@ pub fn row_at(table_3: bool, k: usize) -> Row
         return row_of(true, k);
     }
     row_of(false, k)
-}
-
-// The absolute value of ln T of the period in row k: two ends in units of 10^-9.
-pub fn period_logarithm(k: usize) -> Ends
-    requires { ⌜ k < rowCount ⌝ }
-    ensures { λ r. ⌜ r ≡ listedAt k ⌝ }
-{
-    match k {
-        0 => Ends {
-            low: 4_605_170_185,
-            high: 4_605_170_187,
-        },
-        1 => Ends {
-            low: 3_912_023_005,
-            high: 3_912_023_006,
-        },
-        2 => Ends {
-            low: 3_506_557_897,
-            high: 3_506_557_898,
-        },
-        3 => Ends {
-            low: 3_218_875_824,
-            high: 3_218_875_825,
-        },
-        4 => Ends {
-            low: 2_995_732_273,
-            high: 2_995_732_274,
-        },
-        5 => Ends {
-            low: 2_590_267_165,
-            high: 2_590_267_166,
-        },
-        6 => Ends {
-            low: 2_302_585_092,
-            high: 2_302_585_094,
-        },
-        7 => Ends {
-            low: 1_897_119_984,
-            high: 1_897_119_985,
-        },
-        8 => Ends {
-            low: 1_609_437_912,
-            high: 1_609_437_913,
-        },
-        9 => Ends {
-            low: 1_386_294_361,
-            high: 1_386_294_362,
-        },
-        10 => Ends {
-            low: 1_203_972_804,
-            high: 1_203_972_805,
-        },
-        11 => Ends {
-            low: 916_290_731,
-            high: 916_290_732,
-        },
-        12 => Ends {
-            low: 693_147_180,
-            high: 693_147_181,
-        },
-        13 => Ends {
-            low: 287_682_072,
-            high: 287_682_073,
-        },
-        14 => Ends { low: 0, high: 0 },
-        15 => Ends {
-            low: 405_465_108,
-            high: 405_465_109,
-        },
-        16 => Ends {
-            low: 693_147_180,
-            high: 693_147_181,
-        },
-        17 => Ends {
-            low: 1_098_612_288,
-            high: 1_098_612_289,
-        },
-        18 => Ends {
-            low: 1_386_294_361,
-            high: 1_386_294_362,
-        },
-        19 => Ends {
-            low: 1_609_437_912,
-            high: 1_609_437_913,
-        },
-        20 => Ends {
-            low: 2_014_903_020,
-            high: 2_014_903_021,
-        },
-        _ => Ends {
-            low: 2_302_585_092,
-            high: 2_302_585_094,
-        },
-    }
 }
 
 // Whether the magnitude takes Table 3, and not Table 2.

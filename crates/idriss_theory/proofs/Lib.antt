@@ -1,6 +1,5 @@
 pub mod Rows
 pub mod Bounds
-pub mod Listed
 pub mod Laws
 pub mod SigmaLaws
 pub mod Accepted

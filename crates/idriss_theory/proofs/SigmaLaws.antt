@@ -1,6 +1,6 @@
 -- What `sigmaOf` promises (specs/Promise).
 use mathlib.Core.Path.{_≡_, refl}
-use Prim.Native.Nat.{ℕ, _^_, _≤_, _<_, min, max}
+use Prim.Native.Nat.{ℕ, _^_, _<_}
 use native.Mathlib.Omega.{arith}
 use lib.Dec.{eqb, ltb, eqb→eq, ltb→lt, nltb→le}
 use lib.IntN.{pos}
@@ -14,22 +14,22 @@ use Rattle.exact_theory.proofs.UnitLaws.{lies-natural, lies-negated, lies-state
 use Rattle.exact_theory.proofs.UnitLaws.{lies-difference}
 use Rattle.interval_theory.specs.declared.SignedPair.{SignedPair}
 use Rattle.interval_theory.specs.declared.SignedEnds.{SignedEnds}
-use Rattle.interval_theory.specs.Natural.{sumOf}
+use Rattle.interval_theory.specs.Natural.{MultipleDomain, sumOf}
 use Rattle.interval_theory.specs.Bound.{size, Sized, SignedSized}
-use Rattle.interval_theory.proofs.Bounded.{given, multiple, at-most}
+use Rattle.interval_theory.proofs.Bounded.{given, multiple, multiple-fits, at-most}
 use Rattle.interval_theory.proofs.SignedBounds.{signed-wider, pair-of, ends-narrow, ends-small}
 use Rattle.interval_theory.proofs.NaturalValues.{Held, HeldBelow, multiple-held, multiple-below}
 use Rattle.interval_theory.proofs.SignedValues.{LiesIn}
 use Rattle.interval_theory.proofs.NaturalBounds.{fitting, exactly-within, sum-within}
-use Rattle.logarithm_theory.specs.Promise.{LnDomain, lnWidth}
-use Rattle.logarithm_theory.specs.Bound.{lnMost}
+use Rattle.logarithm_theory.specs.Promise.{LnDomain}
+use Rattle.logarithm_theory.specs.Evaluation.{lnOf}
 use Rattle.logarithm_theory.proofs.Bounds.{ln-sized}
 use Rattle.logarithm_theory.proofs.Enclosure.{Known, AtPoints, encloses, PairAtPoints, at-ends}
 use Rattle.scenario_theory.specs.Neighbours.{idrissPrinted}
 use Rattle.idriss_theory.specs.Sigma.{clamp, sigma}
-use Rattle.idriss_theory.specs.Promise.{sigmaWidth, SigmaEnds}
-use Rattle.idriss_theory.specs.Evaluation.{periodLnOf, periodTermOf, sigmaPairOf, sigmaOf, clampedMagnitude}
-use Rattle.idriss_theory.specs.Evaluation.{clampedPeriod, constantTerm, magnitudeTermOf}
+use Rattle.idriss_theory.specs.Promise.{sigmaWidth, SigmaEnds, ByClamped}
+use Rattle.idriss_theory.specs.Evaluation.{clampedMagnitude, clampedPeriod, constantTerm, magnitudeTermOf}
+use Rattle.idriss_theory.specs.Evaluation.{periodTermOf, sigmaPairOf, sigmaOf}
 use Rattle.idriss_theory.specs.Sizes.{periodTermMost}
 
 -- period 0 is clamped like 0.01 s
@@ -37,55 +37,46 @@ own-clamped : (most period : ℕ) → clamp 50 most (idrissPrinted period) ≡ c
 own-clamped most period =
     by-test (eqb period 0) (λ t. clamp 50 most t ≡ clamp 50 most period) (λ e. rw (eqb→eq period 0 e) refl) (λ e. refl)
 
-module _ (period : ℕ) where
-  abbrev t : ℕ
-  t = clampedPeriod period
+-- ---- 0.035 ln(a/b), and below zero 0.035 ln(b/a)
 
-  domain : LnDomain (max t 1_000) (min t 1_000)
-  domain = omega arith
-
+module _ {a b : ℕ} (domain : LnDomain a b) where
   module _ {σ : Points} (known : Known σ) where
-    -- the absolute value of ln T
-    ln-held : Held (σ .lnAt (max t 1_000) (min t 1_000)) (periodLnOf t)
-    unfolding periodLnOf
+    ln-held : Held (σ .lnAt a b) (lnOf a b)
     ln-held = lies-natural _ _ (known .ln-within domain)
 
-    -- 0.035 ln T: from 1 s on, and below
-    term-held : 1_000 ≤ t → Held (pos 35 over 1_000 *q σ .lnAt t 1_000) (periodTermOf t)
+    term-held : Held (pos 35 over 1_000 *q σ .lnAt a b) (periodTermOf a b)
     unfolding periodTermOf up down
-    term-held h =
-        let most : max t 1_000 ≡ t = omega arith in
-        let least : min t 1_000 ≡ 1_000 = omega arith in
-        multiple-held 35 1_000 700_000 (omega arith) (rw (most, least) at ln-held)
-        (over-Is (pos 35) 1_000 (omega arith))
+    term-held = multiple-held 35 1_000 700_000 (omega arith) ln-held (over-Is (pos 35) 1_000 (omega arith))
 
-    term-below : t < 1_000 → HeldBelow (pos 35 over 1_000 *q σ .lnAt t 1_000) (periodTermOf t)
+    term-below : b < a → HeldBelow (pos 35 over 1_000 *q σ .lnAt b a) (periodTermOf a b)
     unfolding periodTermOf up down
     term-below h =
-        let most : max t 1_000 ≡ 1_000 = omega arith in
-        let least : min t 1_000 ≡ t = omega arith in
-        multiple-below 35 1_000 700_000 (omega arith)
-        (rw (known .ln-negated h) (lies-negated (rw (most, least) at ln-held))) (over-Is (pos 35) 1_000 (omega arith))
+        multiple-below 35 1_000 700_000 (omega arith) (rw (known .ln-negated h) (lies-negated ln-held))
+        (over-Is (pos 35) 1_000 (omega arith))
 
-  pub period-sized : Sized (periodLnOf t) lnWidth lnMost
-  unfolding periodLnOf
-  period-sized = ln-sized domain
+  pub term-fits : MultipleDomain 700_000 (lnOf a b)
+  term-fits = multiple-fits 700_000 (omega arith) (given (ln-sized domain)) tt
 
-  pub term-sized : Sized (periodTermOf t) 2 periodTermMost
+  pub term-sized : Sized (periodTermOf a b) 2 periodTermMost
   unfolding periodTermOf
-  term-sized = at-most (multiple 700_000 (omega arith) (given period-sized)) (size 2 periodTermMost) tt
+  term-sized = at-most (multiple 700_000 (omega arith) (given (ln-sized domain))) (size 2 periodTermMost) tt
 
 -- ---- sigma
 
 module _ (period magnitude : ℕ) where
+  abbrev t : ℕ
+  t = clampedPeriod period
+
+  abbrev m : ℕ
+  m = clampedMagnitude magnitude
+
   abbrev pair : SignedPair
-  pair = sigmaPairOf period magnitude
+  pair = sigmaPairOf t m
 
   -- the term is added or taken off
   pub sigmaPairOf-at-points : PairAtPoints (sigma period magnitude) pair
   unfolding sigma Sound value sigmaPairOf sumOf up down
   sigmaPairOf-at-points =
-      let m = clampedMagnitude magnitude in
       let period-ln : (t : ℕ) → lnQ (pos t over 1_000) ≡ ln t 1_000 =
       λ t. lnQ-is (over-Is (pos t) 1_000 (omega arith)) in
       let constant = lies-stated (over-Is (pos 118) 100 (omega arith)) constantTerm 0 (omega arith) in
@@ -94,24 +85,29 @@ module _ (period magnitude : ℕ) where
       record {
         sound = rw (own-clamped, period-ln) ((tt, (tt, (omega arith, omega arith))), tt);
         held = λ σ known. rw (own-clamped, period-ln)
-            (by-test (ltb (t period) 1_000) (LiesIn _)
+            (by-test (ltb t 1_000) (LiesIn _)
             (λ e.
-            lies-wider (lies-difference (lies-sum constant (term-below period known (ltb→lt (t period) 1_000 e))) rest)
+            let below = ltb→lt t 1_000 e in
+            lies-wider (lies-difference (lies-sum constant (term-below (omega arith) known below)) rest)
             _ _ _ _ (omega arith) (omega arith))
             (λ e.
-            lies-wider (lies-difference (lies-sum constant (term-held period known (nltb→le (t period) 1_000 e))) rest)
+            let above = nltb→le t 1_000 e in
+            lies-wider (lies-difference (lies-sum constant (term-held (omega arith) known)) rest)
             _ _ _ _ (omega arith) (omega arith)));
       }
 
   pub sigmaPairOf-sized : SignedSized pair sigmaWidth 3_000_000_000
   unfolding sigmaPairOf
   sigmaPairOf-sized =
-      let m = exactly-within {n = magnitudeTermOf (clampedMagnitude magnitude)} 450_000_000 (omega arith) in
-      let term = term-sized period in
+      let rest = exactly-within {n = magnitudeTermOf m} 450_000_000 (omega arith) in
       let constant = exactly-within {n = constantTerm} constantTerm (omega arith) in
-      by-test (ltb (t period) 1_000) (λ p. SignedSized p sigmaWidth 3_000_000_000)
-      (λ _. signed-wider (pair-of constant (sum-within m term)) (fitting tt))
-      (λ _. signed-wider (pair-of (sum-within constant term) m) (fitting tt))
+      by-test (ltb t 1_000) (λ p. SignedSized p sigmaWidth 3_000_000_000)
+      (λ e.
+      let below = ltb→lt t 1_000 e in
+      signed-wider (pair-of constant (sum-within rest (term-sized (omega arith)))) (fitting tt))
+      (λ e.
+      let above = nltb→le t 1_000 e in
+      signed-wider (pair-of (sum-within constant (term-sized (omega arith))) rest) (fitting tt))
 
   -- at points, as of the median
   pub sigmaOf-at-points :
@@ -128,6 +124,14 @@ module _ (period magnitude : ℕ) where
     narrow = ends-narrow pair sigmaWidth sigmaPairOf-sized (omega arith);
     small = ends-small pair (2 ^ 53) sigmaPairOf-sized (omega arith);
   }
+
+-- it goes by what is clamped
+pub by-clamped : ByClamped sigmaOf
+unfolding sigmaOf
+by-clamped period magnitude =
+    let twice : clampedPeriod (clampedPeriod period) ≡ clampedPeriod period = omega arith in
+    let again : clampedMagnitude (clampedMagnitude magnitude) ≡ clampedMagnitude magnitude = omega arith in
+    rw (twice, again) refl
 
 -- every pair of which a contract says `r ≡ sigmaOf period magnitude` keeps the promise
 pub sigma-ends : {period magnitude : ℕ} {r : SignedEnds} → r ≡ sigmaOf period magnitude →

@@ -1,7 +1,7 @@
 -- What median and sigma compute, in whole numbers of units of 10^-9. A change of the way of computing swaps these
 -- definitions behind their names; callers go by the laws of proofs/Laws and SigmaLaws, and never by this text.
 use mathlib.Core.Bool.{cond}
-use Prim.Native.Nat.{ℕ, _+_, _*_, _-_, _≤_, min, max}
+use Prim.Native.Nat.{ℕ, _+_, _*_, _-_, _≤_, min}
 use lib.Dec.{ltb}
 use Rattle.interval_theory.specs.declared.SignedEnds.{SignedEnds}
 use Rattle.interval_theory.specs.declared.Ends.{Ends}
@@ -89,33 +89,25 @@ clampedMagnitude magnitude = clamp 500 750 magnitude
 abbrev pub clampedPeriod : ℕ → ℕ
 clampedPeriod period = clamp 50 3_000 period
 
--- T's row, clamped with it: 0.05 s has row 4, and 3 s row 17
-abbrev pub clampedRow : ℕ → ℕ
-clampedRow k = clamp 4 17 k
-
--- the absolute value of ln T of a period of t thousandths of a second, and 0.035 times that
-unfoldable pub periodLnOf : ℕ → Ends
-periodLnOf t = lnOf (max t 1_000) (min t 1_000)
-
-unfoldable pub periodTermOf : ℕ → Ends
-periodTermOf t = multipleOf 700_000 (periodLnOf t)
-
--- 1.18, and 0.06 M
+-- 1.18, 0.06 M, and 0.035 ln(a/b)
 abbrev pub constantTerm : ℕ
 constantTerm = 1_180_000_000
 
 abbrev pub magnitudeTermOf : ℕ → ℕ
 magnitudeTermOf m = 600_000 * m
 
--- 1.18 + 0.035 ln T − 0.06 M as a gain less a loss, and its ends
-unfoldable pub sigmaPairOf : ℕ → ℕ → SignedPair
-sigmaPairOf period magnitude =
-    let constant : Ends = exactly constantTerm in
-    let m : Ends = exactly (magnitudeTermOf (clampedMagnitude magnitude)) in
-    let term : Ends = periodTermOf (clampedPeriod period) in
-    cond (ltb (clampedPeriod period) 1_000)
-    record { gain = constant; loss = sumOf m term }
-    record { gain = sumOf constant term; loss = m }
+unfoldable pub periodTermOf : ℕ → ℕ → Ends
+periodTermOf a b = multipleOf 700_000 (lnOf a b)
 
+-- 1.18 + 0.035 ln T − 0.06 M as a gain less a loss, of numbers that are clamped: below 1 s ln T is −ln(1/T)
+unfoldable pub sigmaPairOf : ℕ → ℕ → SignedPair
+sigmaPairOf t m =
+    let constant : Ends = exactly constantTerm in
+    let magnitudeTerm : Ends = exactly (magnitudeTermOf m) in
+    cond (ltb t 1_000)
+    record { gain = constant; loss = sumOf magnitudeTerm (periodTermOf 1_000 t) }
+    record { gain = sumOf constant (periodTermOf t 1_000); loss = magnitudeTerm }
+
+-- and its ends
 unfoldable pub sigmaOf : ℕ → ℕ → SignedEnds
-sigmaOf period magnitude = endsOf (sigmaPairOf period magnitude)
+sigmaOf period magnitude = endsOf (sigmaPairOf (clampedPeriod period) (clampedMagnitude magnitude))

@@ -1,7 +1,6 @@
 -- What is promised of the ends of median and sigma, whatever the engine computes. proofs/Laws, SigmaLaws and Between
 -- show it of `medianOf`, `sigmaOf` and `medianBetweenOf`; nobody has to read those to believe it.
 use mathlib.Core.Path.{_≡_}
-use mathlib.Core.Bool.{true}
 use Prim.Native.Nat.{ℕ, _+_, _^_, _≤_, _<_}
 use lib.IntN.{pos, _+ℤ_}
 use lib.Signed.{_≤ℤ_}
@@ -12,11 +11,10 @@ use Rattle.interpolation_theory.specs.declared.Step.{Step}
 use Rattle.interpolation_theory.specs.Between.{between}
 use Rattle.interpolation_theory.specs.Promise.{BetweenEnds}
 use Rattle.scenario_theory.specs.Refusal.{idriss}
-use Rattle.scenario_theory.specs.Neighbours.{hasRow}
 use Rattle.scenario_theory.specs.Rows.{rowCount}
 use Rattle.idriss_theory.specs.Tables.{Row}
 use Rattle.idriss_theory.specs.Median.{median}
-use Rattle.idriss_theory.specs.Sigma.{sigma}
+use Rattle.idriss_theory.specs.Sigma.{clamp, sigma}
 use Rattle.idriss_theory.specs.Ranges.{medianLeast, medianMost}
 
 -- the arguments of the median: a row of a table, and numbers within the limits of the model; any V_S30 above them,
@@ -27,10 +25,6 @@ pub record MedianDomain (k magnitude ruptureDistance vs30 : ℕ) : Type 0 where
   pub magnitude-high : magnitude ≤ idriss .magnitude .high
   pub near : ruptureDistance ≤ idriss .distance .high
   pub slow : idriss .velocity .low ≤ vs30
-
--- where the code takes ln T from the list of 22 logarithms: 0 or a tabled period
-pub record SigmaDomain (period : ℕ) : Type 0 where
-  pub tabled : hasRow idriss period ≡ true
 
 -- how far the ends are apart at most; demand 3 allows 100 for the median and 10 for sigma
 abbrev pub medianWidth : ℕ
@@ -54,6 +48,10 @@ pub record SigmaEnds (period magnitude : ℕ) (e : SignedEnds) : Type 0 where
   pub encloses : Encloses (ends (e .low) (e .high)) (sigma period magnitude)
   pub narrow : e .high ≤ℤ (e .low +ℤ pos sigmaWidth)
   pub small : SmallerThan (2 ^ 53) e
+
+-- the ends f of sigma go by period and magnitude only as they are "held to" their ranges
+abbrev pub ByClamped : (ℕ → ℕ → SignedEnds) → Type 0
+ByClamped f = (period magnitude : ℕ) → f period magnitude ≡ f (clamp 50 3_000 period) (clamp 500 750 magnitude)
 
 -- e encloses the median between the rows r and q, at every fineness, is narrow, and lies where the medians by rows do,
 -- but for 100 units

@@ -3,20 +3,14 @@ ghost use mathlib.Core.Path.{_≡_};
 ghost use Prim.Native.Nat.{_^_, _<_};
 ghost use lib.ListN.{length, getD};
 ghost use Rattle.interval_theory.specs.Signed.{SmallerThan};
-ghost use Rattle.scenario_theory.specs.Refusal.{idriss};
-ghost use Rattle.scenario_theory.specs.Rows.{idrissRow, placeBy};
 ghost use Rattle.record_theory.specs.Outcome.{restOf};
 ghost use Rattle.idriss_theory.specs.Tables.{takesTable3};
-ghost use Rattle.idriss_theory.specs.Evaluation.{sigmaOf};
 ghost use Rattle.probes.specs.Probe.{idrissScenario, booreAtkinsonScenario, isTaken, probedLn, probedRoot};
 ghost use Rattle.probes.specs.Probe.{noEnds, told, probedIdriss};
 ghost use Rattle.probes.specs.Probe.{probedIdrissSigma, probedBooreAtkinson, probedBooreAtkinsonSigma};
 ghost use Rattle.probes.specs.Probe.{probedNonlinear, toldPlace, probedPlace};
 use interval_theory::SignedEnds;
-use scenario_theory::Basis;
-use scenario_theory::Check;
 use scenario_theory::Lookup;
-use scenario_theory::Place;
 use scenario_theory::Projection;
 use scenario_theory::ProjectionDistance;
 use scenario_theory::Rupture;
@@ -154,8 +148,9 @@ fn idriss_takes(
     distance: RuptureDistance,
     velocity: u16,
     mechanism: u8,
+    period: u16,
 ) -> bool
-    ensures { λ r. ⌜ r ≡ isTaken k (idrissScenario magnitude (distance .0) velocity mechanism 0) ⌝ }
+    ensures { λ r. ⌜ r ≡ isTaken k (idrissScenario magnitude (distance .0) velocity mechanism period) ⌝ }
 {
     taken(
         k,
@@ -165,7 +160,7 @@ fn idriss_takes(
             rupture: Rupture::At(distance),
             velocity,
             mechanism,
-            period: 0,
+            period,
             projection: Projection::Absent,
         },
     )
@@ -216,37 +211,21 @@ pub extern "C" fn probe_idriss(
     ensures { λ r. ⌜ r ≡ probedIdriss table k magnitude «rupture_distance» velocity mechanism ⌝ }
 {
     let distance = RuptureDistance(rupture_distance);
-    if idriss_takes(k, magnitude, distance, velocity, mechanism) {
+    if idriss_takes(k, magnitude, distance, velocity, mechanism, 0) {
         return tell(idriss::median(table == 3, k, magnitude, distance, velocity, mechanism));
     }
     none()
 }
 
-// Sigma of Idriss at an accepted period, whose place is p.
-fn idriss_sigma(p: Place, period: u16, magnitude: u16) -> SignedEnds
-    requires { ⌜ p ≡ placeBy idriss idrissRow period ⌝ }
-    ensures { λ r. ⌜ (r ≡ sigmaOf period magnitude) × SmallerThan (2 ^ 53) r ⌝ }
-{
-    match p {
-        Place::Row(k) => idriss_sigma::sigma(k, period, magnitude),
-        Place::Between(_) => idriss_sigma::sigma_between(period, magnitude),
-    }
-}
-
-// Sigma of Idriss.
+// Sigma of Idriss at an accepted period.
 #[no_mangle]
 pub extern "C" fn probe_idriss_sigma(period: u16, magnitude: u16) -> ProbedEnds
     ensures { λ r. ⌜ r ≡ probedIdrissSigma period magnitude ⌝ }
 {
-    let rupture = Rupture::At(RuptureDistance(0));
-    let projection = Projection::Absent;
-    match scenario::check(1, magnitude, rupture, 7_600, 0, period, projection) {
-        Check::Accepted(basis) => match basis {
-            Basis::Idriss(_, p) => tell(idriss_sigma(p, period, magnitude)),
-            Basis::BooreAtkinson(_, _) => none(),
-        },
-        Check::Refused(_) => none(),
+    if idriss_takes(0, magnitude, RuptureDistance(0), 7_600, 0, period) {
+        return tell(idriss_sigma::sigma(period, magnitude));
     }
+    none()
 }
 
 // The median of Boore-Atkinson by row k.

@@ -3,6 +3,7 @@ use mathlib.Core.Path.{_≡_, refl, _∙_}
 use borrow.Author.Needs.{needs}
 use Rattle.idriss_theory.proofs.Accepted.{median-domain}
 use Rattle.engine_theory.specs.Steps.{firstIn, lastIn, idrissRowsOf}
+use Rattle.engine_theory.specs.Evaluation.{idrissEnclosureOf}
 use Rattle.engine_theory.proofs.RowLaws.{idriss-tabled, last-placed, first-last}
 use Rattle.engine.proofs.by_idriss.Statement.{statement}
 use Rattle.engine.proofs.by_idriss.Tie as tie
@@ -17,6 +18,7 @@ rows-are c =
     rw (c .before .last-row .ensures, first .first-row .ensures, first .before .takes-table-3 .ensures) refl
 
 pub by-idriss-spec : {M : Type 1} → statement M
+unfolding idrissEnclosureOf
 by-idriss-spec =
     tie.close
     (tie.spec
@@ -25,14 +27,5 @@ by-idriss-spec =
     let k = c .before .before .before in
     rw (c .last-row .ensures, c .before .first-row .ensures)
     (median-domain (last-placed idriss-tabled _ (k .pre)) (k .pre .within), first-last (k .args .place)))
-    (λ c. search needs)
-    (λ c κs.
-    let m = c .before .before .before in
-    let e = c .before .place .given .1 in
-    (rw e at (m .before .before .before .before .pre), rw e at (rows-are m)))
-    (λ c. search needs)
-    (λ c κs.
-    let m = c .before .before .before in
-    let e = c .before .place2 .given .1 in
-    (rw e at (m .before .before .before .before .pre), rw e at (rows-are m)))
-    (λ c. search needs) (λ c. search needs))
+    (λ c κs. (c .before .before .before .before .pre, rows-are c)) (λ c κs. search needs)
+    (λ c. rw (c .sigma .ensures .0, c .before .idriss-median .ensures) refl))
