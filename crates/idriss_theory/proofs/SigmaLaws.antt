@@ -1,5 +1,5 @@
 -- What `sigmaOf` promises (specs/Promise).
-use mathlib.Core.Path.{_≡_, refl}
+use mathlib.Core.Path.{_≡_, refl, _∙_}
 use Prim.Native.Nat.{ℕ, _^_, _<_}
 use native.Mathlib.Omega.{arith}
 use lib.Dec.{eqb, ltb, eqb→eq, ltb→lt, nltb→le}
@@ -15,6 +15,7 @@ use Rattle.exact_theory.proofs.UnitLaws.{lies-difference}
 use Rattle.interval_theory.specs.declared.SignedPair.{SignedPair}
 use Rattle.interval_theory.specs.declared.SignedEnds.{SignedEnds}
 use Rattle.interval_theory.specs.Natural.{MultipleDomain, sumOf}
+use Rattle.interval_theory.specs.Signed.{endsOf}
 use Rattle.interval_theory.specs.Bound.{size, Sized, SignedSized}
 use Rattle.interval_theory.proofs.Bounded.{given, multiple, multiple-fits, at-most}
 use Rattle.interval_theory.proofs.SignedBounds.{signed-wider, pair-of, ends-narrow, ends-small}
@@ -133,7 +134,11 @@ by-clamped period magnitude =
     let again : clampedMagnitude (clampedMagnitude magnitude) ≡ clampedMagnitude magnitude = omega arith in
     rw (twice, again) refl
 
--- every pair of which a contract says `r ≡ sigmaOf period magnitude` keeps the promise
-pub sigma-ends : {period magnitude : ℕ} {r : SignedEnds} → r ≡ sigmaOf period magnitude →
+-- every pair of which a contract says that it is sigma's, by numbers that are clamped, keeps the promise
+pub sigma-ends : {period magnitude t m : ℕ} {r : SignedEnds} → r ≡ endsOf (sigmaPairOf t m) →
+    t ≡ clampedPeriod period → m ≡ clampedMagnitude magnitude →
     (r ≡ sigmaOf period magnitude) × SigmaEnds period magnitude r
-sigma-ends e = (e, rw e (sigmaOf-promise _ _))
+unfolding sigmaOf
+sigma-ends {period} {magnitude} {r = r} e t-is m-is =
+    let is : r ≡ sigmaOf period magnitude = e ∙ rw (t-is, m-is) refl in
+    (is, rw is (sigmaOf-promise period magnitude))
