@@ -18,9 +18,11 @@ clamped-sigma-spec =
     (λ c. omega arith) (λ c. omega arith) (λ c κs. omega arith)
     (λ c.
     let term = c .before .before .before in
-    c .between .ensures ∙ rw (term .period-term .ensures .0, lt-ltb _ 1_000 (term .before .if1 .taken)))
+    c .between .ensures ∙
+    rw (term .period-term .ensures .0, lt-ltb (term .before .before .args .t) 1_000 (omega arith)))
     (λ c κs. omega arith)
     (λ c. omega arith) (λ c. omega arith) (λ c κs. omega arith)
     (λ c.
     let term = c .before .before .before in
-    c .between2 .ensures ∙ rw (term .period-term2 .ensures .0, le-ltb _ 1_000 (term .before .if1 .left))))
+    c .between2 .ensures ∙
+    rw (term .period-term2 .ensures .0, le-ltb (term .before .before .args .t) 1_000 (omega arith))))
