@@ -24,7 +24,7 @@ ALONE := flock target/tests/lock
 
 .PHONY: run test lib examples bench longer definitions outside hosts probe program need need_hosts need_bench need_test
 .PHONY: test_logarithm test_records test_models test_answers test_millionths test_enclosures test_program_failures
-.PHONY: test_hosts test_sheets test_kinds test_contracts
+.PHONY: test_hosts test_sheets test_sigma test_kinds test_contracts
 .SILENT:
 
 run: program
@@ -65,7 +65,7 @@ definitions: need_test
 
 # The longest first, and with it the hosts' library, which most of the others wait for.
 outside: test_enclosures test_hosts test_millionths test_records test_sheets test_answers test_kinds test_models
-outside: test_contracts test_logarithm test_program_failures
+outside: test_contracts test_logarithm test_sigma test_program_failures
 
 test_logarithm test_models: test_%: probe
 	python3 tests/$@.py $(PROBE)
@@ -81,6 +81,9 @@ test_hosts: hosts
 
 test_sheets: hosts
 	python3 tests/$@.py $(ASKS) $(SHEETS)
+
+test_sigma: hosts program
+	python3 tests/$@.py $(firstword $(ASKS)) $(PROGRAM)
 
 test_kinds: hosts
 	python3 tests/$@.py $(LIB)

@@ -127,6 +127,10 @@ def accepted(limits, row, magnitude, own_distance, velocity, mechanism):
             and within(velocity, limits.velocity) and mechanism in limits.mechanism)
 
 
+# Of Idriss's sigma: "T in seconds held to 0.05 to 3".
+HELD_TO = (50, 3000)
+
+
 def held(number, low, high):
     """Return the number held to a range."""
     return min(max(number, low), high)
@@ -279,11 +283,16 @@ def idriss_median_at(table, period, magnitude, rupture_distance, velocity, mecha
                      lambda row: idriss_median(table, row, magnitude, rupture_distance, velocity, mechanism), between)
 
 
+def held_period(period):
+    """Return the period that the sigma of Idriss takes for an accepted one, 0 among them."""
+    # "Period 0 uses the row 0.01", whose period is held to 0.05 like the others below that.
+    return held(period or 10, *HELD_TO)
+
+
 def idriss_sigma(period, magnitude):
     """Return a pair around the real sigma of Idriss at an accepted period; 0 is peak acceleration."""
-    # "Period 0 uses the row 0.01", whose period is held to 0.05 like the others below that.
-    # "T in seconds held to 0.05 to 3 and M held to 5 to 7.5"; W-201: "sigma of Idriss uses T itself".
-    t, m = held(period or 10, 50, 3000), held(magnitude, 500, 750)
+    # "M held to 5 to 7.5"; W-201: "sigma of Idriss uses T itself".
+    t, m = held_period(period), held(magnitude, 500, 750)
     exact = Fraction('1.18') - Fraction('0.06') * Fraction(m, 100)
     return weighted(exact, (Fraction('0.035'), real_ln(t, 1000)))
 

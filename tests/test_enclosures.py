@@ -7,7 +7,8 @@ PROGRAM reads records from standard input and prints `enclosures`, a line for ea
 COUNT is how many records are drawn besides the fixed ones, 20,000 unless given; with 100,000 and more, every period
 from 10 to 10000 is asked of both models, too.  Each line has to have the exact format, and the refusal of records.py or
 ends that enclose the true values of models.py and are not too far apart; at some scenarios the ends have to meet the
-formula's pairs of formula_pairs.py, too.
+formula's pairs of formula_pairs.py, too.  The ends of Idriss's sigma have to be the same at one magnitude for all
+periods up to 50, and for all from 3000 on.
 
 The stored streams are NAME.stdin with NAME.stdout beside this file, in the folder streams or in the one that the
 environment variable STREAMS names.  --store writes them, from an output that passes the same checks.
@@ -46,9 +47,10 @@ UNITS = 10 ** 9
 # How many units the two ends may be apart, of the median and of sigma: at period 0 and at a tabled one, demand 3 and
 # "Its two ends are equal."
 WIDEST = {IDRISS: (100, 10), BOORE_ATKINSON: (2000, 0)}
-# Between the rows, W-201: "twice the tabled widths for the median and 20 units for sigma".
-SIGMA_BETWEEN = 20
-WIDEST_BETWEEN = {model: (2 * median, SIGMA_BETWEEN) for model, (median, _) in WIDEST.items()}
+# Between the rows, W-201: "twice the tabled widths for the median and 20 units for sigma"; but W-205: "Idriss sigma is
+# now at most 10 units wide between rows too".
+SIGMA_BETWEEN = {IDRISS: 10, BOORE_ATKINSON: 20}
+WIDEST_BETWEEN = {model: (2 * median, SIGMA_BETWEEN[model]) for model, (median, _) in WIDEST.items()}
 NAMES = {IDRISS: 'Idriss', BOORE_ATKINSON: 'Boore-Atkinson'}
 PARTS = ('median', 'sigma')
 
@@ -316,6 +318,8 @@ class Tally:
         self.outcomes = Counter()
         self.periods = set()
         self.widths = Counter()
+        self.held = {}
+        self.compared = 0
 
     def full(self):
         """Say whether enough faults have been found."""
@@ -335,6 +339,16 @@ class Tally:
             name = f'{NAMES[model]} {part}{place}'
             self.widths[name] = max(self.widths[name], width)
 
+    def held_fault(self, scenario, sigma):
+        """Return which other ends the sigma of Idriss has had where W-205 has them the same, or None."""
+        # W-205: "at one magnitude all accepted periods up to 50 give the same sigma ends, as do all from 3000 on".
+        period = models.held_period(scenario.period)
+        if scenario.model != IDRISS or period not in models.HELD_TO:
+            return None
+        first, known = self.held.setdefault((scenario.magnitude, period), (scenario, sigma))
+        self.compared += first.period != scenario.period
+        return None if sigma == known else f'the ends of sigma are {sigma}, and {known} of {tuple(first)}'
+
     def greatest_widths(self):
         """Return the greatest widths that have been seen, as a text."""
         return ', '.join(f'{name} {width}' for name, width in sorted(self.widths.items())) or 'none'
@@ -351,7 +365,7 @@ def answer_fault(tally, stream, scenario, line):
         wrong = pair_fault(part, widest, two, narrowest)
         if wrong:
             return wrong
-    return formula_fault(stream, scenario, ends)
+    return tally.held_fault(scenario, ends[2:]) or formula_fault(stream, scenario, ends)
 
 
 def line_fault(tally, stream, position, due, line):
@@ -610,6 +624,8 @@ def check_seen(tally, every=False):
     missing = set(wanted_periods(every)) - tally.periods
     if missing:
         tally.faults.append(f'periods missing: {sorted(missing)[:FAULTS_SHOWN]}')
+    if tally.compared < len(PERIODS[IDRISS]):
+        tally.faults.append(f'only {tally.compared} ends of sigma are compared with those of another period')
 
 
 def report(tally, words):

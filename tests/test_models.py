@@ -42,10 +42,9 @@ UNITS = 10 ** 9
 # The given pair of p is from this many units to 0.
 LOWEST = -10 ** 10
 
-# How many units the two ends may be apart.
+# How many units the two ends may be apart; sigma of Idriss at every accepted period, as W-205 has it "at most 10 units
+# wide between rows too".
 WIDEST = {'idriss': 100, 'idriss_sigma': 10, 'boore_atkinson': 2000, 'boore_atkinson_sigma': 0, 'nonlinear': 2000}
-# W-201, between the rows: "20 units for sigma".
-SIGMA_BETWEEN = 20
 # The nonlinear part is held to that for pairs of p up to so many units wide; for wider pairs it may go beyond the
 # exact range, at either end, by so many units and a hundredth of the pair's width.
 NARROW = 10
@@ -94,11 +93,6 @@ def is_due(question):
 def is_between_rows(question):
     """Say whether a question is one for Idriss's sigma at a period that has no row."""
     return question.name == 'idriss_sigma' and records.between_rows(records.IDRISS, question.arguments[0])
-
-
-def widest(question):
-    """Return how many units the two ends of an answer may be apart."""
-    return SIGMA_BETWEEN if is_between_rows(question) else WIDEST[question.name]
 
 
 def given_pair(low, high):
@@ -407,8 +401,6 @@ def by_formula(rng):
         questions.append(Question('nonlinear', (row, rng.randint(1800, 7600), p, p + rng.randint(0, 10)), True))
         questions.append(Question('boore_atkinson_sigma', (row, rng.choice(BOORE_ATKINSON.mechanism)), True))
         questions.append(Question('idriss_sigma', (IDRISS_PERIODS[row], any_magnitude(rng, IDRISS)), True))
-    for period in idriss_between():
-        questions.append(Question('idriss_sigma', (period, any_magnitude(rng, IDRISS)), True))
     return questions
 
 
@@ -494,7 +486,7 @@ def width_fault(question, ends, true):
             if Fraction(high, UNITS) > true.high + room:
                 return f'the high end is {in_units(Fraction(high, UNITS) - true.high)} above the range'
             return None
-    return f'the ends are {high - low} units apart' if high - low > widest(question) else None
+    return f'the ends are {high - low} units apart' if high - low > WIDEST[question.name] else None
 
 
 def ends_fault(question, ends):

@@ -1,6 +1,6 @@
-// The coefficients of Tables 2 and 3 as constant tables, a row for each period, with the printed digits, and which table
-// a magnitude takes. The compiler stores a const array on the stack unless it knows every place that is read; it unrolls
-// the loop that looks for a row, and so reads constant data.
+// The coefficients of Tables 2 and 3 as constant tables, a row for each period, with the printed digits, and which
+// table a magnitude takes. The compiler stores a const array on the stack unless it knows every place that is read; it
+// unrolls the loop that looks for a row, and so reads constant data.
 ghost use mathlib.Core.Path.{_≡_};
 ghost use mathlib.Core.Bool.{cond};
 ghost use mathlib.Core.List.{map};

@@ -1,7 +1,6 @@
 -- `idriss_median` meets its contract.
 use mathlib.Core.Path.{_≡_, _∙_}
 use borrow.Author.Needs.{needs}
-use Rattle.scenario_theory.specs.declared.Place.the-variants as P
 use Rattle.scenario_theory.specs.Refusal.{idriss}
 use Rattle.scenario_theory.specs.Rows.{idrissRow}
 use Rattle.engine_theory.specs.Steps.{stepAround}
@@ -15,7 +14,8 @@ placed : (c : tie.After-known-told) →
     PlacedOnStep idriss idrissRow (idriss .periods) (c .before .before .before .args .period) k
 placed c = placed-on-step idriss-tabled (rw (c .before .place .given .1) at (c .before .before .before .pre .0))
 
-step : (c : tie.After-step) → c .step .result ≡ stepAround idriss (c .before .before .before .before .before .args .period)
+step : (c : tie.After-step) →
+    c .step .result ≡ stepAround idriss (c .before .before .before .before .before .args .period)
 step c = let n = c .before in step-is (placed (n .before)) (n .idriss-neighbours .ensures) (c .step .ensures)
 
 pub idriss-median-spec : {M : Type 1} → statement M

@@ -1,7 +1,6 @@
 -- `clamped_sigma` meets its contract.
 use mathlib.Core.Path.{_∙_}
 use native.Mathlib.Omega.{arith}
-use borrow.Author.Needs.{needs}
 use borrow.Author.Tests.{lt-ltb, le-ltb}
 use Rattle.interval_theory.specs.Natural.{sumOf}
 use Rattle.interval_theory.specs.Signed.{endsOf}
