@@ -7,9 +7,9 @@ ghost use Rattle.scenario_theory.specs.Refusal.{idriss, booreAtkinson, refusalO
 ghost use Rattle.scenario_theory.specs.Rows.{rowCount, idrissRow, booreAtkinsonRow};
 ghost use Rattle.scenario_theory.specs.Accepted.{Placed, PlacedOn};
 ghost use Rattle.record_theory.specs.Outcome.{scenarioIn, readRefusal};
+ghost use Rattle.idriss_theory.specs.Tables.{tableFor};
 ghost use Rattle.engine_theory.specs.Promise.{AnswerPromise, NextPromise, DoublesPromise};
 ghost use Rattle.engine_theory.specs.Steps.{enclosureOn, firstIn, lastIn, idrissRowsOf, booreAtkinsonRowsOf};
-ghost use Rattle.idriss_theory.specs.Tables.{tableFor};
 ghost use Rattle.engine_theory.specs.Evaluation.{idrissMedianEnds, idrissEnclosureOf, booreAtkinsonEnclosureOf};
 ghost use Rattle.engine_theory.specs.Evaluation.{answerOf, recordAnswerOf, nextOf, inDoubles};
 use doubles::as_doubles;

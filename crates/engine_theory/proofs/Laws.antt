@@ -12,7 +12,8 @@ use Rattle.scenario_theory.specs.Accepted.{checkOf}
 use Rattle.scenario_theory.proofs.CheckLaws.{is-refused}
 use Rattle.scenario_theory.proofs.CheckedLaws.{passed, failed}
 use Rattle.scenario_theory.proofs.RefusalLaws.{of-model}
-use Rattle.idriss_theory.specs.Evaluation.{clampedPeriod, sigmaOf as idrissSigmaOf}
+use Rattle.idriss_theory.specs.Sigma.{clamp}
+use Rattle.idriss_theory.specs.Evaluation.{sigmaOf as idrissSigmaOf}
 use Rattle.idriss_theory.proofs.SigmaLaws.{by-clamped}
 use Rattle.engine_theory.specs.declared.Enclosure.{Enclosure}
 use Rattle.engine_theory.specs.declared.Answer.{Answer}
@@ -20,7 +21,7 @@ use Rattle.engine_theory.specs.declared.Doubles.{Doubles}
 use Rattle.engine_theory.specs.declared.DoublesAnswer.{DoublesAnswer}
 use Rattle.engine_theory.specs.declared.DoublesAnswer.the-variants as D
 use Rattle.engine_theory.specs.declared.Answer.the-variants as A
-use Rattle.engine_theory.specs.Promise.{AnswerPromise, sigmaEnds, SameSigma, DoublesPromise}
+use Rattle.engine_theory.specs.Promise.{AnswerPromise, sigmaValues, SameSigma, DoublesPromise}
 use Rattle.engine_theory.specs.Ranges.{AnswerInRange}
 use Rattle.engine_theory.specs.Evaluation.{idrissEnclosureOf, enclosureOf, answerBy, answerOf, SmallAnswer}
 use Rattle.engine_theory.specs.Evaluation.{doublesOf, inDoubles}
@@ -83,9 +84,9 @@ module _ (s : Scenario) where
 -- ---- of two answers by Idriss
 
 -- sigma's ends go by period and magnitude alone
-by-period-and-magnitude : (s : Scenario) → s .model ≡ 1 → refusalOf s ≡ 0 →
+pub by-period-and-magnitude : (s : Scenario) → s .model ≡ 1 → refusalOf s ≡ 0 →
     let e = idrissSigmaOf (s .period) (s .magnitude) in
-    sigmaEnds (answerOf s) ≡ e .low ∷ e .high ∷ []
+    sigmaValues (answerOf s) ≡ e .low ∷ e .high ∷ []
 unfolding answerOf answerBy enclosureOf idrissEnclosureOf
 by-period-and-magnitude s model accepted =
     ⊎-elim (λ p. rw (accepted, model, p .1 .reads) refl) (λ p. absurd (omega (arith, p .0))) (of-model s accepted)
@@ -93,7 +94,7 @@ by-period-and-magnitude s model accepted =
 -- and by these as they are clamped
 pub same-sigma : SameSigma answerOf
 same-sigma s t s-idriss t-idriss s-accepted t-accepted magnitude periods =
-    let period : clampedPeriod (s .period) ≡ clampedPeriod (t .period) =
+    let period : clamp 50 3_000 (s .period) ≡ clamp 50 3_000 (t .period) =
     ⊎-elim (λ p. omega (arith, p .0, p .1)) (λ p. omega (arith, p .0, p .1)) periods in
     let alike : idrissSigmaOf (s .period) (s .magnitude) ≡ idrissSigmaOf (t .period) (t .magnitude) =
     by-clamped _ _ ∙ rw (period, magnitude) (sym (by-clamped _ _)) in

@@ -46,8 +46,8 @@ use Rattle.boore_atkinson_theory.proofs.Ranges.{medianOf-reaches as boore-atkin
 use Rattle.boore_atkinson_theory.proofs.Between.{medianBetweenOf-promise, sigmaBetweenOf-promise}
 use Rattle.engine_theory.specs.declared.Enclosure.{Enclosure}
 use Rattle.engine_theory.specs.Models.{undefined, idrissMedianBy, median, sigma, idrissWidth, booreAtkinsonWidth}
-use Rattle.engine_theory.specs.Models.{widthAt, medianWidth, idrissSigmaWidth, booreAtkinsonSigmaWidth}
-use Rattle.engine_theory.specs.Models.{sigmaWidth, booreAtkinsonMedianBy, booreAtkinsonSigmaBy}
+use Rattle.engine_theory.specs.Models.{widthAt, medianWidth, idrissSigmaWidth, sigmaBetweenWidth, sigmaWidth}
+use Rattle.engine_theory.specs.Models.{booreAtkinsonMedianBy, booreAtkinsonSigmaBy}
 use Rattle.engine_theory.specs.Promise.{EnclosedWithin}
 use Rattle.engine_theory.specs.Ranges.{medianLeast, medianMost, InRange}
 use Rattle.engine_theory.specs.Evaluation.{idrissMedianEnds, booreAtkinsonMedianEnds}
@@ -154,7 +154,7 @@ module _ (s : Scenario) where
         (medianBetweenOf-promise (s .mechanism) (not-first (b .rows)) d (b .step)) in
         median-ends (between-ends (2 * booreAtkinsonWidth) (omega arith) m) (omega arith) (omega arith) (m .reaches))
 
-    boore-atkinson-sigma : Ends (cond (hasRow booreAtkinson T) 0 booreAtkinsonSigmaWidth) (booreAtkinsonSigmaBy s)
+    boore-atkinson-sigma : Ends (cond (hasRow booreAtkinson T) 0 sigmaBetweenWidth) (booreAtkinsonSigmaBy s)
         (booreAtkinsonSigmaEnds (s .mechanism) T)
     boore-atkinson-sigma =
         by-tabled Ends (hasRow booreAtkinson T)
@@ -168,7 +168,7 @@ module _ (s : Scenario) where
         let g =
         rw (← b .rows .next, ← total-at T1, ← total-at T2) at
         (sigmaBetweenOf-promise (s .mechanism) (not-first (b .rows)) (b .last) (b .step)) in
-        between-ends booreAtkinsonSigmaWidth (omega arith) g)
+        between-ends sigmaBetweenWidth (omega arith) g)
 
 -- ---- the four ends of an accepted scenario
 

@@ -84,11 +84,11 @@ medianWidth s =
 abbrev pub idrissSigmaWidth : ℕ
 idrissSigmaWidth = 10
 
--- "and 20 units for sigma" between rows (W-201)
-abbrev pub booreAtkinsonSigmaWidth : ℕ
-booreAtkinsonSigmaWidth = 20
+-- "and 20 units for sigma" between rows (W-201), of Boore-Atkinson
+abbrev pub sigmaBetweenWidth : ℕ
+sigmaBetweenWidth = 20
 
 -- and those of sigma; by a row of Boore-Atkinson "Its two ends are equal" ('Boore-Atkinson on rock')
 unfoldable pub sigmaWidth : Scenario → ℕ
 sigmaWidth s =
-    byModel s idrissSigmaWidth (cond (hasRow booreAtkinson (s .period)) 0 booreAtkinsonSigmaWidth)
+    byModel s idrissSigmaWidth (cond (hasRow booreAtkinson (s .period)) 0 sigmaBetweenWidth)

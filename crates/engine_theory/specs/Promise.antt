@@ -6,7 +6,7 @@ use mathlib.Core.List.{List, [], _∷_}
 use mathlib.Core.Logic.{_⊎_}
 use Prim.Native.Nat.{ℕ, suc, _≤_}
 use lib.IntN.{ℤ, pos, negsuc, _+ℤ_}
-use lib.ListN.{drop}
+use lib.ListN.{take, drop}
 use lib.Signed.{_≤ℤ_}
 use lib.Ieee.{Float}
 use lib.Ieee.Exact.{HasValue}
@@ -64,8 +64,8 @@ pub record AnswerPromise (k : ℕ) (s : Scenario) (a : Answer) : Type 0 where
 -- ---- of two answers by Idriss
 
 -- the third and the fourth value
-abbrev pub sigmaEnds : Answer → List ℤ
-sigmaEnds a = drop 2 (answerValues a)
+abbrev pub sigmaValues : Answer → List ℤ
+sigmaValues a = take 2 (drop 2 (answerValues a))
 
 -- "at one magnitude all accepted periods up to 50 give the same sigma ends, as do all from 3000 on" (W-205), whatever
 -- the other fields are
@@ -73,7 +73,7 @@ abbrev pub SameSigma : (Scenario → Answer) → Type 0
 SameSigma answer =
     (s t : Scenario) → s .model ≡ 1 → t .model ≡ 1 → refusalOf s ≡ 0 → refusalOf t ≡ 0 → s .magnitude ≡ t .magnitude →
     ((s .period ≤ 50) × (t .period ≤ 50)) ⊎ ((3_000 ≤ s .period) × (3_000 ≤ t .period)) →
-    sigmaEnds (answer s) ≡ sigmaEnds (answer t)
+    sigmaValues (answer s) ≡ sigmaValues (answer t)
 
 -- ---- of the record at the front of some bytes, with its length
 

@@ -82,8 +82,9 @@ pub extern "C" fn fusnoch_rows(model: u8, period: u16) -> HostPeriods
 
 // Answers a scenario of any fields: by Idriss 2014 the median's ends enclose its exact logarithm at most 100 units
 // apart, sigma's at most 10; by Boore and Atkinson 2008 at most 2,000 apart, and sigma's are equal. At a period that
-// has no row of its own, between two rows, it is twice as much, 200 and 4,000, and Boore-Atkinson's sigma's are at most
-// 20 apart. By Idriss sigma's ends are the same at one magnitude for all periods up to 50, and for all from 3000 on.
+// has no row of its own, between two rows, it is twice as much, 200 and 4,000, and sigma's are at most 10 apart by
+// Idriss and 20 by Boore-Atkinson. By Idriss sigma's ends are the same at one magnitude for all accepted periods up to
+// 50, 0 among them, and for all from 3000 on.
 #[no_mangle]
 pub extern "C" fn fusnoch_answer_fields(s: HostScenario) -> FlatAnswer
     ensures { λ r. ⌜ r ≡ told (answerOf (scenarioFrom s)) ⌝ }

@@ -49,7 +49,7 @@ pub record SigmaEnds (period magnitude : ℕ) (e : SignedEnds) : Type 0 where
   pub narrow : e .high ≤ℤ (e .low +ℤ pos sigmaWidth)
   pub small : SmallerThan (2 ^ 53) e
 
--- the ends f of sigma go by period and magnitude only as they are "held to" their ranges
+-- the ends f of sigma go by period and magnitude only as these are "held to" their ranges (document 01, 'Idriss')
 abbrev pub ByClamped : (ℕ → ℕ → SignedEnds) → Type 0
 ByClamped f = (period magnitude : ℕ) → f period magnitude ≡ f (clamp 50 3_000 period) (clamp 500 750 magnitude)
 
