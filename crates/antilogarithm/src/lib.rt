@@ -1,4 +1,6 @@
 // From the ends of a logarithm of g to whole numbers of millionths of g.
+#![tactic(auto)]
+
 ghost use Rattle.std.specs.Prelude.{◌≡◌, suc, ◌+◌, ◌^◌, ◌≤◌, ◌<◌};
 ghost use Rattle.millionths_theory.specs.Promise.{FromEnds};
 ghost use Rattle.millionths_theory.specs.Evaluation.{ln_millionths, most, floor_of, ceiling_after, millionths_from};

@@ -1,4 +1,6 @@
 // The median of Boore and Atkinson 2008, by two ends that enclose the exact value, in units of 10^-9.
+#![tactic(auto)]
+
 ghost use Rattle.std.specs.Prelude.{◌≡◌, ◌≤◌};
 ghost use Rattle.interpolation_theory.specs.Evaluation.{two_rows_of};
 ghost use Rattle.interval_theory.specs.Bound.{Sized};

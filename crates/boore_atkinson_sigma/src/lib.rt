@@ -1,4 +1,6 @@
 // Sigma of Boore and Atkinson 2008, by two ends that equal the printed total, in units of 10^-9.
+#![tactic(auto)]
+
 ghost use Rattle.std.specs.Prelude.{◌≡◌, cond, ◌+◌, ◌≤◌, ◌<◌, eqb};
 ghost use Rattle.interpolation_theory.specs.Evaluation.{two_rows_of};
 ghost use Rattle.scenario_theory.specs.Rows.{row_count};

@@ -1,4 +1,6 @@
 // The site term: the linear part and the nonlinear part.
+#![tactic(auto)]
+
 ghost use Rattle.std.specs.Prelude.{◌≡◌, ◌≤◌, ◌<◌};
 ghost use Rattle.interval_theory.specs.Bound.{Sized};
 ghost use Rattle.boore_atkinson_theory.specs.Rows.{SiteLimits};

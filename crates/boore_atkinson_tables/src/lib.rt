@@ -1,6 +1,8 @@
 // The coefficients of Tables 3, 6, 7 and 8 as constant tables, a row for PGA and one for each period, with the printed
 // digits. The compiler stores a const array on the stack unless it knows every place that is read; it unrolls the loop
 // that looks for a row, and so reads constant data.
+#![tactic(auto)]
+
 ghost use Rattle.std.specs.Prelude.{◌≡◌, map, ◌<◌};
 ghost use Rattle.scenario_theory.specs.Rows.{row_count};
 ghost use Rattle.boore_atkinson_theory.specs.Tables.{table3, table6, table7, table8};

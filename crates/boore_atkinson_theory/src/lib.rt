@@ -1,4 +1,6 @@
 // Boore and Atkinson 2008: the tables and equations, what is computed, what is promised, and laws. There is no code.
+#![tactic(auto)]
+
 use interval_theory::Ends;
 
 // The distance R = √(RJB² + h²), by ln R² and by R in km.

@@ -1,4 +1,6 @@
 // The decimal digits of a number, as bytes: how many they are, put at a place, and put where there may be no room.
+#![tactic(auto)]
+
 ghost use Rattle.std.specs.Prelude.{◌≡◌, ◌+◌, ◌≤◌, length};
 ghost use Rattle.stores_theory.specs.Stores.{Put};
 ghost use Rattle.report_theory.specs.Text.{decimal};

@@ -1,4 +1,6 @@
 // The ends of an answer as doubles that equal them.
+#![tactic(auto)]
+
 ghost use Rattle.std.specs.Prelude.{◌≡◌, ◌^◌, ◌<◌, nat_abs};
 ghost use Rattle.engine_theory.specs.Evaluation.{SmallEnclosure, double_of, doubles_of};
 

@@ -1,5 +1,7 @@
 // Reads records from standard input, answers each and prints a line for each (document 01, 'Records and doubles').
 // Where reading or writing fails, a line on standard error says so.
+#![tactic(auto)]
+
 ghost use Rattle.std.specs.Prelude.{length};
 ghost use Rattle.enclosures_theory.specs.Transfers.{ReadInto, WrittenOf};
 

@@ -1,4 +1,5 @@
 // What the program prints, and what it says of a read or a write that fails: definitions and laws. There is no code.
+#![tactic(auto)]
 
 // How many lines there are, and the place after them.
 #[derive(Drop)]

@@ -1,5 +1,7 @@
 // Answers a scenario, from its fields or from its record, with ends of median and sigma that enclose the exact values,
 // in whole units of 10^-9 or in doubles, or with the number of its refusal.
+#![tactic(auto)]
+
 ghost use Rattle.std.specs.Prelude.{◌≡◌, ◌+◌, ◌<◌};
 ghost use Rattle.scenario_theory.specs.declared.Place.TheVariants as P;
 ghost use Rattle.scenario_theory.specs.Refusal.{idriss, boore_atkinson, refusal_of};

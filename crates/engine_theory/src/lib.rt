@@ -1,4 +1,6 @@
 // Answers: their types, what the models give, what is promised, what is computed, and laws. There is no code.
+#![tactic(auto)]
+
 use interval_theory::SignedEnds;
 
 // The ends of the median and those of sigma.

@@ -1,4 +1,6 @@
 // The line that the program writes to standard error where reading or writing fails, as bytes.
+#![tactic(auto)]
+
 ghost use Rattle.std.specs.Prelude.{◌≡◌, ◌++◌, ◌+◌, ◌≤◌, length, take};
 ghost use Rattle.report_theory.specs.Text.{decimal, places};
 ghost use Rattle.enclosures_theory.specs.Sizes.{error_most};

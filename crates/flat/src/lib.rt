@@ -1,4 +1,6 @@
 // Answers as plain structs, the number with zeros where a scenario is refused: what hosts and sheets hold.
+#![tactic(auto)]
+
 ghost use Rattle.std.specs.Prelude.{◌≡◌};
 ghost use Rattle.scenario_theory.specs.Refusal.{refusal_of};
 ghost use Rattle.record_theory.specs.Outcome.{scenario_in, read_refusal};

@@ -1,4 +1,6 @@
 // Says which scenario of a sheet governs, and which others may.
+#![tactic(auto)]
+
 ghost use Rattle.std.specs.Prelude.{◌≡◌};
 ghost use Rattle.governing_theory.specs.Promise.{GoverningPromise};
 ghost use Rattle.governing_theory.specs.Evaluation.{governing_of};

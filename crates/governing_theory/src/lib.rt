@@ -1,4 +1,5 @@
 // Which scenario of a sheet governs: its types, what is promised, what is computed, and laws. There is no code.
+#![tactic(auto)]
 
 // Which scenario of a sheet governs, and which others may. Number 0: the position of the accepted scenario with the
 // greatest high end of the median, counted from 1, of equal ones the first; and a mark, 1, at the place, counted from 0,

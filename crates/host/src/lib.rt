@@ -1,4 +1,6 @@
 // The engine's functions as C calls them: plain structs, numbers and bytes in, plain structs and numbers out.
+#![tactic(auto)]
+
 ghost use Rattle.std.specs.Prelude.{◌≡◌};
 ghost use Rattle.scenario_theory.specs.Refusal.{refusal_of};
 ghost use Rattle.scenario_theory.specs.Neighbours.{row_periods_of};

@@ -1,4 +1,6 @@
 // A scenario as C has it, and back.
+#![tactic(auto)]
+
 ghost use Rattle.std.specs.Prelude.{◌≡◌};
 ghost use Rattle.scenario_theory.specs.Distances.{rupture_number, rupture_of, projection_number, projection_of};
 ghost use Rattle.host_theory.specs.Told.{flagged, flagged_of, scenario_from, fields_of};

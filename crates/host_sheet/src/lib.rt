@@ -1,4 +1,6 @@
 // A sheet's scenarios as C has them.
+#![tactic(auto)]
+
 ghost use Rattle.std.specs.Prelude.{◌≡◌};
 ghost use Rattle.sheet_theory.specs.Evaluation.{filled, head_of};
 ghost use Rattle.host_theory.specs.Told.{scenario_from, no_fields};

@@ -1,4 +1,5 @@
 // What C is told and tells: plain structs, their definitions, what is promised of them, and laws. There is no code.
+#![tactic(auto)]
 
 // The fields of a scenario, whole numbers: magnitude in 0.01, distances in 0.01 km, velocity V_S30 in 0.1 m/s, period
 // in 0.001 s (0, which is peak acceleration, or from 10 to 10000). Mechanism: 0 strike-slip, 1 normal, 2 reverse,

@@ -1,4 +1,6 @@
 // Sigma of Idriss 2014, by two ends that enclose the exact value, in units of 10^-9.
+#![tactic(auto)]
+
 ghost use Rattle.std.specs.Prelude.{◌≡◌, ◌≤◌};
 ghost use Rattle.interval_theory.specs.Bound.{Sized};
 ghost use Rattle.interval_theory.specs.Signed.{ends_of};

@@ -1,6 +1,8 @@
 // The coefficients of Tables 2 and 3 as constant tables, a row for each period, with the printed digits, and which
 // table a magnitude takes. The compiler stores a const array on the stack unless it knows every place that is read; it
 // unrolls the loop that looks for a row, and so reads constant data.
+#![tactic(auto)]
+
 ghost use Rattle.std.specs.Prelude.{◌≡◌, cond, map, ◌<◌};
 ghost use Rattle.scenario_theory.specs.Rows.{row_count};
 ghost use Rattle.idriss_theory.specs.Tables.{table2, table3, takes_table3};

@@ -1,4 +1,6 @@
 // The value between two rows of a table, in whole units of 10^-9, rounded outward.
+#![tactic(auto)]
+
 ghost use Rattle.std.specs.Prelude.{◌≡◌, ◌^◌, ◌≤◌};
 ghost use Rattle.interpolation_theory.specs.Evaluation.{part_down, part_up, PartDomain};
 ghost use Rattle.interpolation_theory.specs.Evaluation.{interpolated_of, InterpolationDomain};

@@ -1,5 +1,7 @@
 // The value between two rows of a table: the formula, what is computed of it, what is promised, and laws. There is no
 // code.
+#![tactic(auto)]
+
 use interval_theory::{Ends, SignedPair};
 
 // The periods of two neighbouring rows, in thousandths of a second, and ln(T2/T1).

@@ -1,5 +1,7 @@
 // Steps with intervals in whole units of 10^-9, rounded outward: with pairs of ends that are not below zero, and with
 // signed pairs.
+#![tactic(auto)]
+
 ghost use Rattle.std.specs.Prelude.{◌≡◌, ◌^◌, ◌<◌};
 ghost use Rattle.interval_theory.specs.Natural.{MultipleDomain, ProductDomain, QuotientDomain, SumDomain, multiple_of};
 ghost use Rattle.interval_theory.specs.Natural.{product_of, quotient_of, sum_of, hull_of};

@@ -1,4 +1,5 @@
 // Intervals of whole units: their types, the steps with them, rounded outward, and laws. There is no code.
+#![tactic(auto)]
 
 // A low end and a high end, neither of them below zero.
 #[derive(Drop)]

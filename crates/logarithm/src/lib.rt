@@ -1,4 +1,6 @@
 // The natural logarithm of a quotient and the square root of a whole number, each by ends that enclose the exact value.
+#![tactic(auto)]
+
 ghost use Rattle.std.specs.Prelude.{◌≡◌, ◌^◌, ◌<◌};
 ghost use Rattle.exact_theory.specs.Root.{whole_root};
 ghost use Rattle.logarithm_theory.specs.Promise.{LnDomain, LnEnds, RootEnds};

@@ -1,4 +1,6 @@
 // Written by tools/logarithm_tables.py. Two tables of factors that bring a number near 1, with the logarithm of each.
+#![tactic(auto)]
+
 ghost use Rattle.std.specs.Prelude.{◌≡◌};
 ghost use Rattle.logarithm_tables_theory.specs.Tables.{coarse_at, fine_at};
 

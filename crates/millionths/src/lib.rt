@@ -1,5 +1,7 @@
 // Answers a scenario with its median in millionths of g: two whole numbers between which the exact value lies, or the
 // number of its refusal.
+#![tactic(auto)]
+
 ghost use Rattle.std.specs.Prelude.{◌≡◌};
 ghost use Rattle.scenario_theory.specs.Refusal.{refusal_of};
 ghost use Rattle.millionths_theory.specs.Promise.{MillionthsPromise};

@@ -1,4 +1,5 @@
 // Medians in millionths of g: their types, what is promised, what is computed, and laws. There is no code.
+#![tactic(auto)]
 
 // Two whole numbers of millionths of g.
 #[derive(Drop)]

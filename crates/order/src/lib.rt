@@ -1,4 +1,6 @@
 // The lesser and the greater of two numbers.
+#![tactic(auto)]
+
 ghost use Rattle.std.specs.Prelude.{◌≡◌, min, max};
 
 // The lesser of two.

@@ -1,4 +1,6 @@
 // The page that the program prints, as bytes.
+#![tactic(auto)]
+
 ghost use Rattle.std.specs.Prelude.{◌≡◌, ◌+◌, ◌*◌, ◌≤◌, length, take};
 ghost use Rattle.report_theory.specs.Lines.{line_of, last_line_of};
 ghost use Rattle.enclosures_theory.specs.Sizes.{bytes_taken, lines_most, line_most, last_most, page_most};

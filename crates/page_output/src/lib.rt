@@ -1,4 +1,6 @@
 // What goes to standard output, by how far reading came.
+#![tactic(auto)]
+
 ghost use Rattle.std.specs.Prelude.{◌≡◌, ◌≤◌, length, take};
 ghost use Rattle.enclosures_theory.specs.Sizes.{bytes_taken, page_most};
 ghost use Rattle.enclosures_theory.specs.Transfers.{ReadInto, output_of};

@@ -1,4 +1,6 @@
 // The step between two neighbouring rows of a table, by the logarithms of their periods.
+#![tactic(auto)]
+
 ghost use Rattle.std.specs.Prelude.{◌≡◌};
 ghost use Rattle.logarithm_theory.specs.Promise.{LnDomain};
 ghost use Rattle.logarithm_theory.specs.Evaluation.{ln_of};

@@ -1,4 +1,6 @@
 // The leaves for tests outside Rattle: functions on any numbers and bytes, which a C program can call.
+#![tactic(auto)]
+
 ghost use Rattle.std.specs.Prelude.{◌≡◌, ◌^◌, ◌<◌, length, get_or};
 ghost use Rattle.interval_theory.specs.Signed.{SmallerThan};
 ghost use Rattle.record_theory.specs.Outcome.{rest_of};

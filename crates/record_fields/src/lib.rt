@@ -1,4 +1,6 @@
 // The fields of a record at the front of some bytes, and the checks before they are taken.
+#![tactic(auto)]
+
 ghost use Rattle.std.specs.Prelude.{◌≡◌, cond, ◌&&◌, ◌||◌, ◌+◌, ◌≤◌, ◌<◌, length, take, drop};
 ghost use Rattle.std.proofs.Math.Option.{none, some};
 ghost use Rattle.scenario_theory.specs.Distances.{rupture_of, projection_of};

@@ -1,5 +1,7 @@
 // The map byte of a record: its checks, and the length of the record that it begins; and the numbers of absent fields,
 // which reading and writing share.
+#![tactic(auto)]
+
 ghost use Rattle.std.specs.Prelude.{◌≡◌, cond, ◌+◌, ◌≤◌, ◌<◌};
 ghost use Rattle.record_theory.specs.Outcome.{length_by, map_refusal};
 

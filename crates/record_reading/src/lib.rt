@@ -1,4 +1,6 @@
 // Reads the record of a scenario.
+#![tactic(auto)]
+
 ghost use Rattle.std.specs.Prelude.{◌≡◌, ◌+◌};
 ghost use Rattle.record_theory.specs.Layout.{Bytes};
 ghost use Rattle.record_theory.specs.Outcome.{read_of, rest_at, rest_of, ReadPromise};

@@ -1,4 +1,6 @@
 // The record of a scenario: what reading and writing answer, the layout, and laws. There is no code.
+#![tactic(auto)]
+
 use scenario_theory::{Basis, Scenario};
 
 // What reading answers: the scenario and the length of its record, or the number with which it is turned away.

@@ -1,4 +1,6 @@
 // The line of an answer, as bytes.
+#![tactic(auto)]
+
 ghost use Rattle.std.specs.Prelude.{◌≡◌, ◌+◌, ◌≤◌, length};
 ghost use Rattle.stores_theory.specs.Stores.{Put};
 ghost use Rattle.engine_theory.specs.declared.Answer.TheVariants.{Enclosed, Refused};

@@ -1,4 +1,6 @@
 // The last line, as bytes.
+#![tactic(auto)]
+
 ghost use Rattle.std.specs.Prelude.{◌≡◌, ◌≤◌, length};
 ghost use Rattle.std.proofs.lemmas.List.Edits.{sets};
 ghost use Rattle.report_theory.specs.Lines.{end_bytes, last_line_of, length_on, bytes_after};

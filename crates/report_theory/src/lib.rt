@@ -1,4 +1,5 @@
 // The line of an answer, and the last line, as bytes: definitions and laws. There is no code.
+#![tactic(auto)]
 
 // A number by its sign and its absolute value.
 #[derive(Drop)]

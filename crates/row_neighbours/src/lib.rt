@@ -1,5 +1,7 @@
 // The neighbouring rows of each model's tables, by their periods, with ln(T2/T1). In each line both periods are known,
 // so that the compiler works the logarithm out, and what is left is a look-up.
+#![tactic(auto)]
+
 ghost use Rattle.std.specs.Prelude.{◌≡◌, ◌∷◌, ◌+◌, ◌≤◌, ◌<◌, get_or};
 ghost use Rattle.interpolation_theory.specs.Steps.{neighbours_of};
 ghost use Rattle.scenario_theory.specs.Refusal.{idriss, boore_atkinson};

@@ -1,4 +1,6 @@
 // The checks of a scenario: 9 for the distance, 13 and 1 to 6.
+#![tactic(auto)]
+
 ghost use Rattle.std.specs.Prelude.{◌≡◌, not, [], ◌∷◌};
 ghost use Rattle.toolbox_theory.specs.Lists.{among};
 ghost use Rattle.scenario_theory.specs.declared.Rupture.TheVariants as R;

@@ -1,4 +1,6 @@
 // The periods of the rows that a median rests on.
+#![tactic(auto)]
+
 ghost use Rattle.std.specs.Prelude.{◌≡◌, ◌<◌, get_or};
 ghost use Rattle.scenario_theory.specs.Rows.{row_count, row_list, periods_at, InTable};
 ghost use Rattle.scenario_theory.specs.Neighbours.{row_periods_of};

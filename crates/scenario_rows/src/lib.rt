@@ -1,4 +1,6 @@
 // Where a period stands in the tables of each model.
+#![tactic(auto)]
+
 ghost use Rattle.std.specs.Prelude.{◌≡◌, cond, ◌&&◌, ◌∷◌, ◌+◌, ◌-◌, ◌≤◌, ◌<◌, ltb, get_or};
 ghost use Rattle.toolbox_theory.specs.Lists.{count_below};
 ghost use Rattle.scenario_theory.specs.declared.Lookup.TheVariants as L;

@@ -1,5 +1,6 @@
 // A scenario, the checks 9 for the distance, 13 and 1 to 6, and the rows of periods: types, definitions and laws. There
 // is no code.
+#![tactic(auto)]
 
 // In 0.01 km, to the rupture: the distance that Idriss reads.
 #[derive(Drop)]

@@ -1,4 +1,6 @@
 // Names and marks the places of a sheet of answers: the greatest end among the accepted ones, and the marks.
+#![tactic(auto)]
+
 ghost use Rattle.std.specs.Prelude.{◌≡◌, ◌≤◌};
 ghost use Rattle.sheet_theory.specs.Promise.{sheet_most};
 ghost use Rattle.governing_theory.specs.Evaluation.{leads, with_place, greatest_of, mark_of, marks_of, no_screening};

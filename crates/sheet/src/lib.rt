@@ -1,4 +1,6 @@
 // Answers a sheet of scenarios in one go: at each place what the single call gives, or zeros.
+#![tactic(auto)]
+
 ghost use Rattle.std.specs.Prelude.{◌≡◌};
 ghost use Rattle.sheet_theory.specs.Promise.{SheetPromise};
 ghost use Rattle.sheet_theory.specs.Evaluation.{sheet_of};

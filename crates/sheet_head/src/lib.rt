@@ -1,4 +1,6 @@
 // A sheet's own number and its count, by how many scenarios there are.
+#![tactic(auto)]
+
 ghost use Rattle.std.specs.Prelude.{◌≡◌};
 ghost use Rattle.sheet_theory.specs.Evaluation.{head_of};
 

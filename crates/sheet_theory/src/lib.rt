@@ -1,4 +1,5 @@
 // A sheet of scenarios, answered in one go: its type, what is promised, what is computed, and laws. There is no code.
+#![tactic(auto)]
 
 // A sheet of up to 64 answers: number 0, how many there are, and at each place before that count the low and high ends
 // of the median and of sigma, natural logarithms in units of 10^-9, beside the number 0, or zeros beside the number of

@@ -1,4 +1,6 @@
 // The difference of two unsigned numbers, and the absolute value of a signed one.
+#![tactic(auto)]
+
 ghost use Rattle.std.specs.Prelude.{◌≡◌, ◌+◌, ◌^◌, ◌<◌, nat_abs};
 ghost use Rattle.std.proofs.Math.IntN.{sub_ℕ};
 

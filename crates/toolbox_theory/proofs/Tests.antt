@@ -3,7 +3,7 @@ use mathlib.Core.Path.{◌≡◌, refl}
 use mathlib.Core.Bool.{Bool, true, false, not, cond, ◌&&◌}
 use mathlib.Core.List.{List, [], ◌∷◌}
 use Prim.Native.Nat.{ℕ, zero, suc, ◌+◌, ◌<◌, ◌≤◌}
-use native.Mathlib.Nat.{le_of_suc-le-suc, not-suc-le-zero, add_zero, add-suc, suc-add}
+use native.Mathlib.Nat.{le_of_suc-le-suc, not-suc-le-zero, add-zero, add-suc, suc-add}
 use native.Mathlib.Decide.{dec_lt}
 use native.Mathlib.Omega.{arith}
 use lib.Dec.{T, leb, leb→le}
@@ -44,7 +44,7 @@ module _ {A : Type 0} (test : ℕ → A → Bool) where
   pub every_at : (d : A) (i : ℕ) (xs : List A) → T (every i xs) → (k : ℕ) → k < length xs →
       T (test (i + k) (get_or xs k d))
   every_at d i [] t k h = absurd (not-suc-le-zero h)
-  every_at d i (x ∷ xs) t zero h = rw add_zero (and_left (test i x) (every (suc i) xs) t)
+  every_at d i (x ∷ xs) t zero h = rw add-zero (and_left (test i x) (every (suc i) xs) t)
   every_at d i (x ∷ xs) t (suc k) h =
       rw (add-suc, ← suc-add i k)
       (every_at d (suc i) xs (and_right (test i x) (every (suc i) xs) t) k (le_of_suc-le-suc h))
