@@ -4,29 +4,29 @@
 use interval_theory::Ends;
 
 // The distance R = √(RJB² + h²), by ln R² and by R in km.
-#[derive(Drop)]
+#[derive(Clone, Copy)]
 pub struct EffectiveDistance {
     pub ln: Ends,
     pub km: Ends,
 }
 
 // gain − loss.
-#[derive(Drop)]
+#[derive(Clone, Copy)]
 pub struct Exact {
     pub gain: u64,
     pub loss: u64,
 }
 
 // −blin, −b1, −b2.
-#[derive(Drop)]
+#[derive(Clone, Copy)]
 pub struct SiteRow(pub u32, pub u32, pub u32);
 
 // −c1, c2, −c2, −c3, h; of a number and its negative, the one below zero stands as 0.
-#[derive(Drop)]
+#[derive(Clone, Copy)]
 pub struct DistanceRow(pub u32, pub u32, pub u32, pub u32, pub u32);
 
 // e1, −e1, e2, −e2, e3, −e3, e4, −e4, e5, −e6, e7, Mh.
-#[derive(Drop)]
+#[derive(Clone, Copy)]
 pub struct MagnitudeRow(
     pub u32,
     pub u32,
@@ -43,5 +43,5 @@ pub struct MagnitudeRow(
 );
 
 // σTU, σTM.
-#[derive(Drop)]
+#[derive(Clone, Copy)]
 pub struct TotalRow(pub u32, pub u32);

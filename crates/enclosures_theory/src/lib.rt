@@ -2,14 +2,14 @@
 #![tactic(auto)]
 
 // How many lines there are, and the place after them.
-#[derive(Drop)]
+#[derive(Clone, Copy)]
 pub struct Printed {
     pub count: u64,
     pub next: usize,
 }
 
 // How far a read or a write came, in bytes.
-#[derive(Drop)]
+#[derive(Clone, Copy)]
 pub enum Transfer {
     Complete(usize),
     Failed(usize),

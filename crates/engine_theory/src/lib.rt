@@ -4,21 +4,21 @@
 use interval_theory::SignedEnds;
 
 // The ends of the median and those of sigma.
-#[derive(Drop)]
+#[derive(Clone, Copy)]
 pub struct Enclosure {
     pub median: SignedEnds,
     pub sigma: SignedEnds,
 }
 
 // What answering gives: four ends, or the number with which it is turned away.
-#[derive(Drop)]
+#[derive(Clone, Copy)]
 pub enum Answer {
     Enclosed(Enclosure),
     Refused(u8),
 }
 
 // An answer to the record at the front of some bytes, with the record's length.
-#[derive(Drop)]
+#[derive(Clone, Copy)]
 pub enum NextAnswer {
     Enclosed(Enclosure, usize),
     Refused(u8),
@@ -27,7 +27,7 @@ pub enum NextAnswer {
 // An answer: number 0 and the low and high ends of the median and of sigma, natural logarithms in units of 10^-9; or
 // the number of the refusal, and zeros for the ends.
 #[repr(C)]
-#[derive(Drop)]
+#[derive(Clone, Copy)]
 pub struct FlatAnswer {
     pub number: u8,
     pub median_low: i64,
@@ -37,7 +37,7 @@ pub struct FlatAnswer {
 }
 
 // The four ends as doubles.
-#[derive(Drop)]
+#[derive(Clone, Copy)]
 pub struct Doubles {
     pub median_low: f64,
     pub median_high: f64,
@@ -46,7 +46,7 @@ pub struct Doubles {
 }
 
 // What answering in doubles gives.
-#[derive(Drop)]
+#[derive(Clone, Copy)]
 pub enum DoublesAnswer {
     Enclosed(Doubles),
     Refused(u8),

@@ -1,7 +1,7 @@
 -- Sums of unit fractions: split in two, compared with weights over one denominator, and made finer.
 use mathlib.Core.Path.{◌≡◌, refl, ap}
 use Prim.Native.Nat.{ℕ, zero, suc, ◌+◌, ◌*◌, ◌-◌, ◌≤◌, ◌<◌}
-use native.Mathlib.Nat.{le_refl, add_zero, zero-add, zero-mul, suc-add, add-suc, one-le-mul, sub-add_cancel}
+use native.Mathlib.Nat.{le_refl, add-zero, zero-add, zero-mul, suc-add, add-suc, one-le-mul, sub-add_cancel}
 use native.Mathlib.Omega.{arith}
 use lib.IntN.{pos}
 use Rattle.toolbox_theory.specs.Whole.{up, down}
@@ -25,7 +25,7 @@ over_add n m {d} h = eq_of (add-Is (over-Is _ d h) (over-Is _ d h)) (over-Is _ d
 
 pub harmonic_split : (c d k : ℕ) → harmonic (c + d) k ≈q harmonic c k +q harmonic d (k + c)
 unfolding harmonic
-harmonic_split zero d k = rw (zero-add, add_zero) (≈q_sym (zero_q_add (harmonic d k)))
+harmonic_split zero d k = rw (zero-add, add-zero) (≈q_sym (zero_q_add (harmonic d k)))
 harmonic_split (suc c) d k =
     rw (suc-add c d, add-suc k c, ← suc-add k c)
     (≈q_trans (add_cong (≈q_refl _) (harmonic_split c d (suc k))) (≈q_sym (add_assoc _ _ _)))

@@ -7,7 +7,7 @@
 // places. The median of an accepted scenario without a mark is less than that of some marked one. Or number 14, more
 // than 64 scenarios, or 15, no scenario is accepted, and zeros for all else.
 #[repr(C)]
-#[derive(Drop)]
+#[derive(Clone, Copy)]
 pub struct FlatScreening {
     pub number: u8,
     pub position: usize,
@@ -15,7 +15,7 @@ pub struct FlatScreening {
 }
 
 // The greatest end among some accepted places, and the first position that has it; zeros where no place is accepted.
-#[derive(Drop)]
+#[derive(Clone, Copy)]
 pub struct Greatest {
     pub position: usize,
     pub end: i64,

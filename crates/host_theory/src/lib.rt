@@ -7,7 +7,7 @@
 // the rupture, model 2, Boore and Atkinson 2008, that to its surface projection; the other may stand. A distance whose
 // flag is 0 is absent, and the number beside it is not looked at; with any other flag it stands.
 #[repr(C)]
-#[derive(Drop)]
+#[derive(Clone, Copy)]
 pub struct HostScenario {
     pub model: u8,
     pub rupture_present: u8,
@@ -22,13 +22,13 @@ pub struct HostScenario {
 
 // The scenarios of a sheet, at the places from 0 on. Places from the count on are not read.
 #[repr(C)]
-#[derive(Drop)]
+#[derive(Clone, Copy)]
 pub struct HostScenarios {
     pub places: [HostScenario; 64],
 }
 
 // A distance as C has it: its flag, 0 or 1, and its number, 0 where it is absent.
-#[derive(Drop)]
+#[derive(Clone, Copy)]
 pub struct Flagged {
     pub present: u8,
     pub distance: u16,
@@ -36,7 +36,7 @@ pub struct Flagged {
 
 // The same with the ends as doubles that equal the whole numbers, still in units of 10^-9.
 #[repr(C)]
-#[derive(Drop)]
+#[derive(Clone, Copy)]
 pub struct HostDoubles {
     pub number: u8,
     pub median_low: f64,
@@ -48,7 +48,7 @@ pub struct HostDoubles {
 // A median in millionths of g: number 0 and two whole numbers of millionths between which it lies, of which a low of 0
 // sets no bound; or the number of the refusal, and zeros.
 #[repr(C)]
-#[derive(Drop)]
+#[derive(Clone, Copy)]
 pub struct HostBounds {
     pub number: u8,
     pub low: u32,
@@ -60,7 +60,7 @@ pub struct HostBounds {
 // (peak acceleration, period 0, has 10 and 10 by model 1, and by model 2 the row PGA, 0 and 0); or the number of the
 // refusal, 1 or 6, and zeros.
 #[repr(C)]
-#[derive(Drop)]
+#[derive(Clone, Copy)]
 pub struct HostPeriods {
     pub number: u8,
     pub lower: u16,
@@ -70,7 +70,7 @@ pub struct HostPeriods {
 // What is read: number 0, the scenario, with the flags 0 or 1 and 0 beside an absent distance, and how many bytes its
 // record has (the rest of the bytes comes after them); or the number of the refusal, and zeros.
 #[repr(C)]
-#[derive(Drop)]
+#[derive(Clone, Copy)]
 pub struct HostReading {
     pub number: u8,
     pub scenario: HostScenario,
@@ -79,7 +79,7 @@ pub struct HostReading {
 
 // What writing comes to: number 0 and how many bytes the record has; or the number of the refusal, and 0.
 #[repr(C)]
-#[derive(Drop)]
+#[derive(Clone, Copy)]
 pub struct HostWriting {
     pub number: u8,
     pub length: usize,

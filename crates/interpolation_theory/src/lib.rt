@@ -5,7 +5,7 @@
 use interval_theory::{Ends, SignedPair};
 
 // The periods of two neighbouring rows, in thousandths of a second, and ln(T2/T1).
-#[derive(Drop)]
+#[derive(Clone, Copy)]
 pub struct Neighbours {
     pub lower: u16,
     pub upper: u16,
@@ -13,7 +13,7 @@ pub struct Neighbours {
 }
 
 // A period between those of two rows, in thousandths of a second, with ln(T/T1) and ln(T2/T1).
-#[derive(Drop)]
+#[derive(Clone, Copy)]
 pub struct Step {
     pub period: u16,
     pub lower: u16,
@@ -23,7 +23,7 @@ pub struct Step {
 }
 
 // The values by two rows; where there is only one, it is the upper, and the lower is 0.
-#[derive(Drop)]
+#[derive(Clone, Copy)]
 pub struct TwoRows {
     pub lower: SignedPair,
     pub upper: SignedPair,

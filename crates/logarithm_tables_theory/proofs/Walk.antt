@@ -5,7 +5,7 @@ use mathlib.Core.Bool.{Bool, true, ◌&&◌}
 use mathlib.Core.List.{List, [], ◌∷◌}
 use Prim.Native.Nat.{ℕ, zero, suc, ◌+◌, ◌*◌, ◌-◌, ◌/◌, ◌≤◌, ◌<◌}
 use native.Mathlib.Nat.{div-mul-le_self, lt-div-mul-add, not-suc-le-zero, le_of_suc-le-suc}
-use native.Mathlib.Nat.{le_of_mul-le-mul_left, add_zero, add-suc}
+use native.Mathlib.Nat.{le_of_mul-le-mul_left, add-zero, add-suc}
 use native.Mathlib.Numerals.{one-add}
 use native.Mathlib.Omega.{arith}
 use lib.Dec.{T, leb, eqb, leb→le, eqb→eq}
@@ -44,7 +44,7 @@ steps f (suc c) q x = steps f c q (x + f (q + c))
 
 steps_down : {N q : ℕ} → 1 ≤ q → (c : ℕ) {x y : ℕ} → q + c ≤ N → Bounds S x y N (q + c) →
     Bounds S (steps low_step c q x) (steps high_step c q y) N q
-steps_down hq zero h p = rw add_zero at p
+steps_down hq zero h p = rw add-zero at p
 steps_down {q = q} hq (suc c) h p =
     let s = step (q + c) (omega arith) in
     steps_down hq c (omega arith) (bounds_plus S (omega arith) (omega arith) (omega arith) (rw (add-suc q c) at p) s)

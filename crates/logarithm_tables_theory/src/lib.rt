@@ -3,7 +3,7 @@
 #![tactic(auto)]
 
 // A whole number, and the logarithm of 4096 (coarse) or 16384 (fine) over it in units of 10^-9/4096, rounded down.
-#[derive(Drop)]
+#[derive(Clone, Copy)]
 pub struct Factor {
     pub by: u64,
     pub logarithm: u64,

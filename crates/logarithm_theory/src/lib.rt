@@ -3,7 +3,7 @@
 #![tactic(auto)]
 
 // mantissa 2^octave / 2^35, the mantissa from 2^35 to below 2^36.
-#[derive(Drop)]
+#[derive(Clone, Copy)]
 pub struct Scaled {
     pub octave: u64,
     pub mantissa: u64,

@@ -2,14 +2,14 @@
 #![tactic(auto)]
 
 // Two whole numbers of millionths of g.
-#[derive(Drop)]
+#[derive(Clone, Copy)]
 pub struct Millionths {
     pub low: u32,
     pub high: u32,
 }
 
 // What answering in millionths gives: two of them, or the number with which it is turned away.
-#[derive(Drop)]
+#[derive(Clone, Copy)]
 pub enum MillionthsAnswer {
     Between(Millionths),
     Refused(u8),
@@ -17,7 +17,7 @@ pub enum MillionthsAnswer {
 
 // Of some units of a logarithm: the greatest whole number of millionths whose logarithm is surely up to them, and the
 // low end of the next number's logarithm.
-#[derive(Drop)]
+#[derive(Clone, Copy)]
 pub struct Floor {
     pub whole: u64,
     pub next: i64,

@@ -15,7 +15,7 @@ use scenario_theory::{Lookup, Projection, ProjectionDistance, Rupture, RuptureDi
 
 // The ends of a logarithm. Where there are none, low is 1 and high 0.
 #[repr(C)]
-#[derive(Drop)]
+#[derive(Clone, Copy)]
 pub struct Probed {
     pub low: u64,
     pub high: u64,
@@ -23,7 +23,7 @@ pub struct Probed {
 
 // The ends of an answer. Where there are none, low is 1 and high 0.
 #[repr(C)]
-#[derive(Drop)]
+#[derive(Clone, Copy)]
 pub struct ProbedEnds {
     pub low: i64,
     pub high: i64,
@@ -31,7 +31,7 @@ pub struct ProbedEnds {
 
 // The place of a period: 0 for row k, 1 for between the rows k and k + 1, 2 for neither.
 #[repr(C)]
-#[derive(Drop)]
+#[derive(Clone, Copy)]
 pub struct ProbedPlace {
     pub kind: u8,
     pub row: usize,

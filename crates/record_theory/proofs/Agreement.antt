@@ -5,7 +5,7 @@ use mathlib.Core.Bool.{Bool, true, false, not, cond, and-not_self}
 use mathlib.Core.List.{List, [], ◌∷◌}
 use mathlib.Core.Option.{Option, none, some}
 use Prim.Native.Nat.{ℕ, suc, ◌+◌, ◌*◌, ◌/◌, ◌%◌, ◌^◌, ◌≤◌, ◌<◌}
-use native.Mathlib.Nat.{mul_zero, pow-suc, two-pow-succ, div-div-eq-div-mul}
+use native.Mathlib.Nat.{mul-zero, pow-suc, two-pow-succ, div-div-eq-div-mul}
 use native.Mathlib.Omega.{arith}
 use borrow.Author.Tests.{eqb-true, eqb-false, eq-eqb, ne_eqb}
 use lib.Dec.{eqb}
@@ -59,7 +59,7 @@ digit false p = omega arith
 map_digits : (fs : List Field) (k : ℕ) (x : Scenario) → Counted k fs →
     (map_of fs x ≡ 2 ^ k * digits fs x) × (digits fs x < 2 ^ length fs)
 unfolding map_of
-map_digits [] k x c = (sym (mul_zero (2 ^ k)), omega arith)
+map_digits [] k x c = (sym (mul-zero (2 ^ k)), omega arith)
 map_digits (f ∷ fs) k x c =
     let ih = map_digits fs (suc k) x c.1 in
     let d = digit (is_absent (f.written x)) (2 ^ k) in

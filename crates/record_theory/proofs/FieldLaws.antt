@@ -4,7 +4,7 @@ use mathlib.Core.Bool.{Bool, true, false, not, cond, ◌&&◌, ◌||◌, or-fals
 use mathlib.Core.List.{List, [], ◌∷◌}
 use mathlib.Core.Option.{Option, none, some}
 use Prim.Native.Nat.{ℕ, ◌+◌, ◌*◌}
-use native.Mathlib.Nat.{add_zero}
+use native.Mathlib.Nat.{add-zero}
 use native.Mathlib.Omega.{arith}
 use lib.Dec.{eqb}
 use lib.ListN.{get_or, take, drop}
@@ -93,10 +93,10 @@ front_word (a ∷ []) = omega arith
 front_word (a ∷ b ∷ s) = omega arith
 
 pub byte_at : (s : List ℕ) (at : ℕ) → number_at 1 at s ≡ get_or s at 0
-byte_at s at = front_byte (drop at s) ∙ (get_or-drop at s 0 0 ∙ ap (λ (i : ℕ). get_or s i 0) (add_zero at))
+byte_at s at = front_byte (drop at s) ∙ (get_or-drop at s 0 0 ∙ ap (λ (i : ℕ). get_or s i 0) (add-zero at))
 
 pub word_at : (s : List ℕ) (at : ℕ) → number_at 2 at s ≡ get_or s at 0 + 256 * get_or s (at + 1) 0
-word_at s at = rw (front_word (drop at s), get_or-drop at s 0 0, get_or-drop at s 1 0, add_zero at)
+word_at s at = rw (front_word (drop at s), get_or-drop at s 0 0, get_or-drop at s 1 0, add-zero at)
 
 -- a field that stands with its absent number, one of three; a distance has none
 pub absent_written_is : (m : ℕ) (x : Scenario) {r a b c : Bool} → StandBy m x → r ≡ (a || (b || c)) →

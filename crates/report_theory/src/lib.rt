@@ -2,13 +2,13 @@
 #![tactic(auto)]
 
 // A number by its sign and its absolute value.
-#[derive(Drop)]
+#[derive(Clone, Copy)]
 pub struct Word {
     pub minus: bool,
     pub abs: u64,
 }
 
-#[derive(Drop)]
+#[derive(Clone, Copy)]
 pub struct Words {
     pub low: Word,
     pub high: Word,

@@ -3,28 +3,28 @@
 #![tactic(auto)]
 
 // In 0.01 km, to the rupture: the distance that Idriss reads.
-#[derive(Drop)]
+#[derive(Clone, Copy)]
 pub struct RuptureDistance(pub u16);
 
 // In 0.01 km, to the surface projection of the rupture: the distance that Boore and Atkinson read.
-#[derive(Drop)]
+#[derive(Clone, Copy)]
 pub struct ProjectionDistance(pub u16);
 
 // Either may be absent, and has no number then.
-#[derive(Drop)]
+#[derive(Clone, Copy)]
 pub enum Rupture {
     Absent,
     At(RuptureDistance),
 }
 
-#[derive(Drop)]
+#[derive(Clone, Copy)]
 pub enum Projection {
     Absent,
     At(ProjectionDistance),
 }
 
 // The fields of document 01, 'The scenario', as whole numbers.
-#[derive(Drop)]
+#[derive(Clone, Copy)]
 pub struct Scenario {
     // 1 Idriss, 2 Boore-Atkinson
     pub model: u8,
@@ -41,14 +41,14 @@ pub struct Scenario {
 }
 
 // Where a period that is answered stands in the tables of a model: it has row k, or lies between rows k and k + 1.
-#[derive(Drop)]
+#[derive(Clone, Copy)]
 pub enum Place {
     Row(usize),
     Between(usize),
 }
 
 // What a look-up of a period in the tables of a model finds: a place, or none.
-#[derive(Drop)]
+#[derive(Clone, Copy)]
 pub enum Lookup {
     Row(usize),
     Between(usize),
@@ -56,14 +56,14 @@ pub enum Lookup {
 }
 
 // What an answer rests on: the model, the distance that it reads, and the place of the period in its tables.
-#[derive(Drop)]
+#[derive(Clone, Copy)]
 pub enum Basis {
     Idriss(RuptureDistance, Place),
     BooreAtkinson(ProjectionDistance, Place),
 }
 
 // What all checks come to: what the answer rests on, or the number of the first that fails.
-#[derive(Drop)]
+#[derive(Clone, Copy)]
 pub enum Check {
     Accepted(Basis),
     Refused(u8),
@@ -71,7 +71,7 @@ pub enum Check {
 
 // The periods of the two rows that a median rests on, the lower and the upper, equal where the period has a row of its
 // own; or the number with which the model or the period is turned away.
-#[derive(Drop)]
+#[derive(Clone, Copy)]
 pub enum RowPeriods {
     Rows(u16, u16),
     Refused(u8),

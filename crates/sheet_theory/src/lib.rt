@@ -6,7 +6,7 @@
 // the refusal; places from the count on hold zeros, and are no answers. Or number 14, more than 64 scenarios, and zeros
 // for all else.
 #[repr(C)]
-#[derive(Drop)]
+#[derive(Clone, Copy)]
 pub struct FlatSheet {
     pub number: u8,
     pub count: usize,
@@ -18,7 +18,7 @@ pub struct FlatSheet {
 }
 
 // A sheet's own number and its count.
-#[derive(Drop)]
+#[derive(Clone, Copy)]
 pub struct SheetHead {
     pub number: u8,
     pub count: usize,

@@ -1,6 +1,6 @@
 -- `put_text` meets its contract: after i turns the first i bytes of the text are added.
 use Prim.Native.Nat.{◌+◌, ◌-◌, ◌≤◌}
-use native.Mathlib.Nat.{add_zero}
+use native.Mathlib.Nat.{add-zero}
 use native.Mathlib.Omega.{arith}
 use borrow.Author.Rules.{rules}
 use lib.ListN.{length, take}
@@ -21,7 +21,7 @@ put_text_spec =
     tie.close
     (tie.spec
     invariant_loop decreases_loop
-    (λ c. (omega arith, rw add_zero (search nothing)))
+    (λ c. (omega arith, rw add-zero (search nothing)))
     (λ c. search rules) (λ c. search rules) (λ c. search rules) (λ c. search rules) (λ c. search rules)
     (λ c. (omega arith, then_next _ _ c.before.loop-test.true c.before.before.loop.invariant.1 (omega arith)))
     (λ c. search rules) (λ c. search rules)
