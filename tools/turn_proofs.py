@@ -62,6 +62,7 @@ def turn(text, f):
         return m.group(0)
 
     text = re.sub(rf"(?<=[\w)'])\.({WORD})", field, text)
+    text = re.sub(r"\b(idriss|boore_atkinson)\.periods-t\b", r"\1.periods", text)
     return re.sub(r"\.0\.taken\b", ".0.true", re.sub(r"\.0\.left\b", ".0.false", text))
 
 
