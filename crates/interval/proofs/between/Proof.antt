@@ -15,5 +15,5 @@ between_spec =
     (λ c.
     let a = c.before.before.args in
     let low = stored a.a a.b (omega arith) (omega arith) c.before.difference.ensures in
-    let high = stored a.c a.d (omega arith) (omega arith) c.difference2.ensures in
+    let high = stored a.c a.d (omega arith) (omega arith) c.difference-2.ensures in
     rw (low, high)))

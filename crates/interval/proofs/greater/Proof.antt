@@ -10,5 +10,5 @@ pub greater_spec : {M : Type 1} → statement M
 greater_spec =
     tie.close
     (tie.spec
-    (λ c. let f = c.before.ranges in rw (compared f.a f.b c.if1.true, to_z-of_z w64 _ f.b) refl)
-    (λ c. let f = c.before.ranges in rw (compared f.a f.b c.if1.false, to_z-of_z w64 _ f.a) refl))
+    (λ c. let f = c.before.ranges in rw (compared f.a f.b c.if-a-b.true, to_z-of_z w64 _ f.b) refl)
+    (λ c. let f = c.before.ranges in rw (compared f.a f.b c.if-a-b.false, to_z-of_z w64 _ f.a) refl))

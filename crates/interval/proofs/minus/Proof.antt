@@ -8,4 +8,4 @@ pub minus_spec : {M : Type 1} → statement M
 unfolding minus_of
 minus_spec =
     tie.close
-    (tie.spec (λ c κs. search rules) (λ c κs. search rules) (λ c. rw (c.before.sum.ensures, c.sum2.ensures)))
+    (tie.spec (λ c κs. search rules) (λ c κs. search rules) (λ c. rw (c.before.sum.ensures, c.sum-2.ensures)))

@@ -8,4 +8,4 @@ pub plus_spec : {M : Type 1} → statement M
 unfolding plus_of
 plus_spec =
     tie.close
-    (tie.spec (λ c κs. search rules) (λ c κs. search rules) (λ c. rw (c.before.sum.ensures, c.sum2.ensures)))
+    (tie.spec (λ c κs. search rules) (λ c κs. search rules) (λ c. rw (c.before.sum.ensures, c.sum-2.ensures)))

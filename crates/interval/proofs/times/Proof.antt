@@ -9,4 +9,4 @@ unfolding times_of
 times_spec =
     tie.close
     (tie.spec (λ c κs. search rules) (λ c κs. search rules)
-    (λ c. rw (c.before.product.ensures, c.product2.ensures)))
+    (λ c. rw (c.before.product.ensures, c.product-2.ensures)))

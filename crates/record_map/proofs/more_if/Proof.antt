@@ -9,5 +9,5 @@ more_if_spec =
     tie.close
     (tie.spec
     (λ c. search rules)
-    (λ c. (simp c.if1.true (omega arith), search rules))
-    (λ c. (simp c.if1.false (omega arith), search rules)))
+    (λ c. (simp c.if-b.true (omega arith), search rules))
+    (λ c. (simp c.if-b.false (omega arith), search rules)))

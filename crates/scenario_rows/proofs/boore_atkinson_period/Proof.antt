@@ -9,7 +9,7 @@ pub boore_atkinson_period_spec : {M : Type 1} → statement M
 boore_atkinson_period_spec =
     tie.close
     (tie.spec (λ c. search rules) (λ c. search rules) (λ c κs. search rules)
-    (λ c. c.idriss-period.ensures ∙ period_up_to_30 c.before.before.if1.false c.before.if2.true)
+    (λ c. c.idriss_period.ensures ∙ period_up_to_30 c.before.before.if-k-eq0.false c.before.if-k-lt4.true)
     (λ c κs. search rules)
-    (λ c. c.idriss-period2.ensures ∙
-    period_from_50 c.before.before.if1.false c.before.if2.false c.before.before.before.requires))
+    (λ c. c.idriss_period-2.ensures ∙
+    period_from_50 c.before.before.if-k-eq0.false c.before.if-k-lt4.false c.before.before.before.requires))

@@ -13,13 +13,13 @@ boore_atkinson_place_spec =
     tie.close
     (tie.spec
     (λ c κs. search rules) (λ c κs. search rules)
-    (λ c. rw c.match.keys1) (λ c. rw c.match.keys2) (λ c. rw c.match.keys3) (λ c. rw c.match.keys4)
-    (λ c. rw c.match.keys5) (λ c. rw c.match.keys6) (λ c. rw c.match.keys7) (λ c. rw c.match.keys8)
-    (λ c. rw c.match.keys9) (λ c. rw c.match.keys10) (λ c. rw c.match.keys11) (λ c. rw c.match.keys12)
-    (λ c. rw c.match.keys13) (λ c. rw c.match.keys14) (λ c. rw c.match.keys15) (λ c. rw c.match.keys16)
-    (λ c. rw c.match.keys17) (λ c. rw c.match.keys18) (λ c. rw c.match.keys19) (λ c. rw c.match.keys20)
-    (λ c. rw c.match.keys21) (λ c. rw c.match.keys22)
+    (λ c. rw c.in-0.is) (λ c. rw c.in-10.is) (λ c. rw c.in-20.is) (λ c. rw c.in-30.is)
+    (λ c. rw c.in-50.is) (λ c. rw c.in-75.is) (λ c. rw c.in-100.is) (λ c. rw c.in-150.is)
+    (λ c. rw c.in-200.is) (λ c. rw c.in-250.is) (λ c. rw c.in-300.is) (λ c. rw c.in-400.is)
+    (λ c. rw c.in-500.is) (λ c. rw c.in-750.is) (λ c. rw c.in-1000.is) (λ c. rw c.in-1500.is)
+    (λ c. rw c.in-2000.is) (λ c. rw c.in-3000.is) (λ c. rw c.in-4000.is) (λ c. rw c.in-5000.is)
+    (λ c. rw c.in-7500.is) (λ c. rw c.in-10000.is)
     (λ c.
     let a = c.before.before in
-    in_no_row 1 boore_atkinson boore_atkinson_row a.before.args.period a.match.rest
-    c.before.count-below-without-40.ensures.0 c.after.ensures))
+    in_no_row 1 boore_atkinson boore_atkinson_row a.before.args.period a.in_default.in_default-own.rest
+    c.before.count_below_without_40.ensures.0 c.after.ensures))

@@ -11,25 +11,25 @@ use Rattle.scenario_theory.specs.Refusal.{idriss}
 use Rattle.scenario_rows.proofs.count_below.Statement.{statement}
 use Rattle.scenario_rows.proofs.count_below.Tie as tie
 
-abbrev invariant_loop : tie.invariant_loop
+abbrev invariant_loop : tie.invariant-loop-i
 invariant_loop period t n₀ i₀ n i = (n ≡ count_below (take i t) period) × ((n ≤ i) × (i ≤ 22))
 
-abbrev decreases_loop : tie.decreases_loop
+abbrev decreases_loop : tie.decreases-loop-i
 decreases_loop period t n₀ i₀ n i = 22 - i
 
-again : tie.Need-loop-preserved invariant_loop decreases_loop
+again : tie.Need-loop-i-preserved invariant_loop decreases_loop
 again c =
     let a = c.before.before in
     ⊎_elim
-    (λ w. (count_one _ _ a.loop.i (omega arith) a.loop.invariant.0 w.0.taken w.1, omega arith))
-    (λ w. (count_none _ _ a.loop.i (omega arith) a.loop.invariant.0 w.0.left w.1, omega arith))
-    c.if1.branch
+    (λ w. (count_one _ _ a.loop-i.i (omega arith) a.loop-i.invariant.0 w.if-t-i.true w.n-is, omega arith))
+    (λ w. (count_none _ _ a.loop-i.i (omega arith) a.loop-i.invariant.0 w.if-t-i.false w.n-is, omega arith))
+    c.if-t-i.branch-raw
 
 returns : tie.Need-returns invariant_loop decreases_loop
 returns c =
-    let l = c.before.loop in
+    let l = c.before.loop-i in
     let end : l.i ≡ 22 = omega arith in
-    (rw (end, c.before.before.periods.ensures) at l.invariant.0 ∙ count_all idriss.periods _, omega arith)
+    (rw (end, c.before.before.periods-t.ensures) at l.invariant.0 ∙ count_all idriss.periods _, omega arith)
 
 pub count_below_spec : {M : Type 1} → statement M
 unfolding count_below

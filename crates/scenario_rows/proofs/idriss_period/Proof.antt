@@ -8,4 +8,4 @@ pub idriss_period_spec : {M : Type 1} → statement M
 idriss_period_spec =
     tie.close
     (tie.spec (λ c κs. search rules) (λ c. search rules) (λ c. search rules)
-    (λ c. rw c.periods.ensures refl))
+    (λ c. rw c.periods-t.ensures refl))

@@ -25,14 +25,14 @@ minus : (z : ℤ) → SFits w64 z → lt_z (to_z w64 (of_z w64 z)) (pos 0) ≡ t
 minus (pos n) f t = absurd (omega (arith, ltb-true n 0 (rw (to_z-of_z w64 (pos n) f) at t)))
 minus (negsuc n) f t = record { n = n; small = f.sfits; size = refl; read = to_z-of_z w64 (negsuc n) f }
 
-found : (c : tie.Then1) → Minus c.before.args.z
-found c = minus c.before.args.z c.before.ranges.z c.if1.true
+found : (c : tie.Then-z-lt0) → Minus c.before.args.z
+found c = minus c.before.args.z c.before.ranges.z c.if-z-lt0.true
 
-casts : tie.Need-overflow-cast-result-2
+casts : tie.Need-overflow_cast-result-2
 casts c =
     let z = c.before.args.z in
     let f = c.before.ranges.z in
-    let t = rw (to_z-of_z w64 z f) at c.if1.false in
+    let t = rw (to_z-of_z w64 z f) at c.if-z-lt0.false in
     rw (to_z-of_z w64 z f) (yes_non_neg {z = z} (lt_z_no (rw t tt)), omega (arith, nat_abs-le z f.sfits))
 
 pub unsigned_abs_spec : {M : Type 1} → statement M
