@@ -12,6 +12,6 @@ unfolding ln_of
 ln_spec =
     tie.close
     (tie.spec
-    (λ c. ln_ends_lem c.before.requires (simp (eq-eqb _ _ c.if1.true))) (λ c κs. search rules)
-    (λ c κs. rw c.scale.ensures (scales c.before.before.requires).normal)
-    (λ c. let i = c.before.before in ln_ends_lem i.before.requires (unequal _ _ i.if1.false (cc))))
+    (λ c. ln_ends_lem c.before.requires (simp (eq-eqb _ _ c.if-a-b.true))) (λ c κs. search rules)
+    (λ c κs. rw c.scale-s.ensures (scales c.before.before.requires).normal)
+    (λ c. let i = c.before.before in ln_ends_lem i.before.requires (unequal _ _ i.if-a-b.false (cc))))

@@ -10,5 +10,5 @@ pub ln_hundredths_spec : {M : Type 1} → statement M
 ln_hundredths_spec =
     tie.close
     (tie.spec
-    (λ c κs. search rules) (λ c κs. rw c.scale.ensures (scales c.before.requires.0).normal)
+    (λ c κs. search rules) (λ c κs. rw c.scale-s.ensures (scales c.before.requires.0).normal)
     (λ c. let k = c.before.before in ln_ends_lem k.requires.0 (unequal k.args.a 100 (λ e. omega arith) (cc))))

@@ -9,19 +9,19 @@ use Rattle.logarithm_theory.proofs.Remainder.{near_small}
 use Rattle.logarithm.proofs.mantissa_ln.Statement.{statement}
 use Rattle.logarithm.proofs.mantissa_ln.Tie as tie
 
-coarse_known : (c : tie.After-coarse) → Coarse c.before.args.y c.coarse.result
-coarse_known c = rw c.coarse.ensures (coarse_at_lem _ c.before.requires.least c.before.requires.most)
+coarse_known : (c : tie.After-coarse-coarse) → Coarse c.before.args.y c.coarse-coarse.result
+coarse_known c = rw c.coarse-coarse.ensures (coarse_at_lem _ c.before.requires.least c.before.requires.most)
 
-fine_known : (c : tie.After-fine) →
-    Fine (c.before.before.before.args.y * c.before.before.coarse.result.by) c.fine.result
-fine_known c = let k = coarse_known c.before.before in rw c.fine.ensures (fine_at_lem _ k.least k.most)
+fine_known : (c : tie.After-fine-fine) →
+    Fine (c.before.before.before.args.y * c.before.before.coarse-coarse.result.by) c.fine-fine.result
+fine_known c = let k = coarse_known c.before.before in rw c.fine-fine.ensures (fine_at_lem _ k.least k.most)
 
-add_result_2 : tie.Need-overflow-add-result-2
+add_result_2 : tie.Need-overflow_add-result-2
 add_result_2 c =
     let n = c.before.before in
     let f = n.before.before in
     let w = fine_known f in
-    rw n.near_one.ensures (omega (arith, (coarse_known f.before.before).small, near_small (near w)))
+    rw n.near_one-rest.ensures (omega (arith, (coarse_known f.before.before).small, near_small (near w)))
 
 pub mantissa_ln_spec : {M : Type 1} → statement M
 unfolding mantissa_ln_of

@@ -11,4 +11,4 @@ root_spec =
     tie.close
     (tie.spec
     (λ c. search rules) (λ c κs. search rules)
-    (λ c. let e = c.whole-root.ensures in (e, rw e (root_of_promise c.before.args.x))))
+    (λ c. let e = c.whole_root.ensures in (e, rw e (root_of_promise c.before.args.x))))

@@ -7,7 +7,7 @@ use Rattle.logarithm_theory.proofs.Sum.{mantissa_ln}
 use Rattle.logarithm.proofs.scaled_ln.Statement.{statement}
 use Rattle.logarithm.proofs.scaled_ln.Tie as tie
 
-small : (c : tie.After-mantissa-ln) → c.mantissa_ln.result ≤ 5_680_000_000_000
+small : (c : tie.After-mantissa_ln) → c.mantissa_ln.result ≤ 5_680_000_000_000
 small c = rw c.mantissa_ln.ensures (mantissa_ln c.before.requires.mantissa).small
 
 pub scaled_ln_spec : {M : Type 1} → statement M

@@ -7,10 +7,10 @@ use Rattle.logarithm_theory.proofs.Newton.{from_some, quotient_less, falls, stil
 use Rattle.logarithm.proofs.whole_root.Statement.{statement}
 use Rattle.logarithm.proofs.whole_root.Tie as tie
 
-abbrev invariant_loop : tie.invariant_loop
+abbrev invariant_loop : tie.invariant-loop-s
 invariant_loop n half s₀ s = (n < suc s * suc s) × (s < 2 ^ 32)
 
-abbrev decreases_loop : tie.decreases_loop
+abbrev decreases_loop : tie.decreases-loop-s
 decreases_loop n half s₀ s = s
 
 pub whole_root_spec : {M : Type 1} → statement M
@@ -23,9 +23,9 @@ whole_root_spec =
     (λ c. omega (arith, (first _ c.requires).few)) (λ c. omega (arith, (first _ c.requires).few))
     (λ c. let f = first _ c.requires in rw f.shifted (omega arith))
     (λ c. let f = first _ c.requires in rw f.shifted (f.above, omega arith))
-    (λ c. record { fits = square_fits _ c.loop.invariant.1 })
-    (λ c. from_some _ _ c.loop-test.true)
-    (λ c. omega (arith, quotient_less _ _ c.loop-test.true))
-    (λ c. falls _ _ c.loop-test.true)
-    (λ c. (still_above _ _ c.loop-test.true, omega (arith, falls _ _ c.loop-test.true)))
-    (λ c. root_unique (record { low = c.loop-test.false; high = c.before.loop.invariant.0 }) (whole_root_is _)))
+    (λ c. record { fits = square_fits _ c.loop-s.invariant.1 })
+    (λ c. from_some _ _ c.loop-s-test.true)
+    (λ c. omega (arith, quotient_less _ _ c.loop-s-test.true))
+    (λ c. falls _ _ c.loop-s-test.true)
+    (λ c. (still_above _ _ c.loop-s-test.true, omega (arith, falls _ _ c.loop-s-test.true)))
+    (λ c. root_unique (record { low = c.loop-s-test.false; high = c.before.loop-s.invariant.0 }) (whole_root_is _)))

@@ -8,5 +8,5 @@ pub boore_atkinson_basis_spec : {M : Type 1} → statement M
 boore_atkinson_basis_spec =
     tie.close
     (tie.spec
-    (λ c. search rules) (λ c. search rules) (λ c. search rules) (λ c. rw c.before.lookup.given.1 refl)
-    (λ c. rw c.before.lookup2.given.1 refl) (λ c. rw c.enum_told.given.1 refl))
+    (λ c. search rules) (λ c. search rules) (λ c. search rules) (λ c. rw c.in-Row.is refl)
+    (λ c. rw c.in-Between.is refl) (λ c. rw c.in-Outside.is refl))

@@ -12,27 +12,27 @@ idriss_check_spec =
     tie.close
     (tie.spec
     (λ c κs. search rules)
-    (λ c. fails_2 idriss idriss_row _ _ (sym c.before.outside.ensures ∙ c.if1.true))
+    (λ c. fails_2 idriss idriss_row _ _ (sym c.outside.ensures ∙ c.if-outside.true))
     (λ c κs. search rules)
     (λ c.
     let two = c.before.before in
-    fails_3 idriss idriss_row _ _ (sym two.before.outside.ensures ∙ two.if1.false)
-    (sym c.before.outside2.ensures ∙ c.if2.true))
+    fails_3 idriss idriss_row _ _ (sym two.outside.ensures ∙ two.if-outside.false)
+    (sym c.outside-2.ensures ∙ c.if-outside-2.true))
     (λ c κs. search rules)
     (λ c.
     let three = c.before.before in
     let two = three.before.before in
-    fails_4 idriss idriss_row _ _ (sym two.before.outside.ensures ∙ two.if1.false)
-    (sym three.before.outside2.ensures ∙ three.if2.false) (sym c.before.outside3.ensures ∙ c.if3.true))
+    fails_4 idriss idriss_row _ _ (sym two.outside.ensures ∙ two.if-outside.false)
+    (sym three.outside-2.ensures ∙ three.if-outside-2.false) (sym c.outside-3.ensures ∙ c.if-outside-3.true))
     (λ c κs. search rules)
     (λ c.
     let four = c.before.before in
     let three = four.before.before in
     let two = three.before.before in
-    fails_5 idriss idriss_row _ _ (sym two.before.outside.ensures ∙ two.if1.false)
-    (sym three.before.outside2.ensures ∙ three.if2.false)
-    (sym four.before.outside3.ensures ∙ four.if3.false)
-    (sym c.before.unknown.ensures ∙ c.if4.true))
+    fails_5 idriss idriss_row _ _ (sym two.outside.ensures ∙ two.if-outside.false)
+    (sym three.outside-2.ensures ∙ three.if-outside-2.false)
+    (sym four.outside-3.ensures ∙ four.if-outside-3.false)
+    (sym c.unknown.ensures ∙ c.if-unknown.true))
     (λ c κs. search rules) (λ c κs. search rules)
     (λ c.
     let place = c.before in
@@ -40,9 +40,9 @@ idriss_check_spec =
     let four = five.before.before in
     let three = four.before.before in
     let two = three.before.before in
-    c.idriss-basis.ensures ∙ idriss_last _ (record {
-      two = sym two.before.outside.ensures ∙ two.if1.false;
-      three = sym three.before.outside2.ensures ∙ three.if2.false;
-      four = sym four.before.outside3.ensures ∙ four.if3.false;
-      five = sym five.before.unknown.ensures ∙ five.if4.false;
-    }) place.idriss-place.ensures))
+    c.idriss_basis.ensures ∙ idriss_last _ (record {
+      two = sym two.outside.ensures ∙ two.if-outside.false;
+      three = sym three.outside-2.ensures ∙ three.if-outside-2.false;
+      four = sym four.outside-3.ensures ∙ four.if-outside-3.false;
+      five = sym five.unknown.ensures ∙ five.if-unknown.false;
+    }) place.idriss_place.ensures))

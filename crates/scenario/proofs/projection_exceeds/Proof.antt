@@ -11,5 +11,5 @@ projection_exceeds_spec =
     (λ c. search rules) (λ c. search rules) (λ c. search rules) (λ c. search rules)
     (λ c. search rules) (λ c. search rules)
     (λ c.
-    let r = c.before.before.before in
-    rw (r.rupture.given.1, r.before.before.before.projection.given.1) refl))
+    let r = c.before.before in
+    rw (r.in-At-rupture.is, r.in-At.is) refl))

@@ -10,5 +10,5 @@ refusal_spec =
     tie.close
     (tie.spec
     (λ c κs. search rules) (λ c. search rules) (λ c. search rules)
-    (λ c. sym (passed _ (sym c.before.before.check.ensures ∙ c.enum_told.given.1)).accepted)
-    (λ c. (failed _ (sym c.before.before.before.check.ensures ∙ c.before.k.given.1)).number))
+    (λ c. sym (passed _ (sym c.check.ensures ∙ c.in-Accepted.is)).accepted)
+    (λ c. (failed _ (sym c.check.ensures ∙ c.in-Refused.is)).number))
