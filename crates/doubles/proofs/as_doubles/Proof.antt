@@ -26,9 +26,9 @@ returns c =
     let e = k.args.e in
     rw (
       of_field e.median.low k.requires.median.low one.double.ensures,
-      of_field e.median.high k.requires.median.high two.double2.ensures,
-      of_field e.sigma.low k.requires.sigma.low three.double3.ensures,
-      of_field e.sigma.high k.requires.sigma.high c.double4.ensures,
+      of_field e.median.high k.requires.median.high two.double-2.ensures,
+      of_field e.sigma.low k.requires.sigma.low three.double-3.ensures,
+      of_field e.sigma.high k.requires.sigma.high c.double-4.ensures,
     ) refl
 
 pub as_doubles_spec : {M : Type 1} → statement M

@@ -11,5 +11,5 @@ pub double_spec : {M : Type 1} → statement M
 double_spec =
     tie.close
     (tie.spec
-    (λ c. rw (to_z-of_z w64 _ c.before.ranges.z) (in_range _ c.before.requires))
-    (λ c. ap double_of (to_z-of_z w64 _ c.before.ranges.z)))
+    (λ c. rw (to_z-of_z w64 _ c.ranges.z) (in_range _ c.requires))
+    (λ c. ap double_of (to_z-of_z w64 _ c.ranges.z)))

@@ -19,11 +19,11 @@ interpolated_spec =
     let fourth = c.before.before in
     let third = fourth.before.before in
     let second = third.before.before in
-    let first = second.before.before.part-down.ensures.0 in
+    let first = second.part_down.ensures.0 in
     rw (
       c.between.ensures,
-      fourth.part-down2.ensures.0,
-      third.part-up2.ensures.0,
+      fourth.part_down-2.ensures.0,
+      third.part_up-2.ensures.0,
       second.part_up.ensures.0,
       first,
     )))

@@ -10,5 +10,5 @@ pub part_down_spec : {M : Type 1} → statement M
 unfolding part_down
 part_down_spec =
     tie.close
-    (tie.spec (λ c. (sym (part_down_none _ _ _ _ c.if1.true), search rules))
+    (tie.spec (λ c. (sym (part_down_none _ _ _ _ c.if-above-below.true), search rules))
     (λ c. search rules) (λ c. search rules) (λ c. search rules) (λ c. (refl, search rules)))

@@ -12,5 +12,5 @@ absent_written_spec =
     (λ c.
     let mechanism = c.before.before.before in
     let velocity = mechanism.before.before in
-    absent_written_is _ _ velocity.before.before.requires c.any.ensures velocity.both.ensures
-    mechanism.both2.ensures c.before.both3.ensures))
+    absent_written_is _ _ velocity.requires c.any.ensures velocity.both.ensures
+    mechanism.both-2.ensures c.both-3.ensures))

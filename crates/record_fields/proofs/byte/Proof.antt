@@ -7,4 +7,4 @@ use Rattle.record_fields.proofs.byte.Tie as tie
 
 pub byte_spec : {M : Type 1} → statement M
 byte_spec =
-    tie.close (tie.spec (λ c. search rules) (λ c. sym (byte_at c.before.args.s.now c.before.args.at)))
+    tie.close (tie.spec (λ c. search rules) (λ c. sym (byte_at c.args.s.now c.args.at)))

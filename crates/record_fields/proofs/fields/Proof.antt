@@ -34,15 +34,15 @@ fields_spec =
     let places = magnitude.before.before in
     let start = places.before.before.before.before.before.before in
     rw (
-      c.projection-if.ensures,
-      period.word-or2.ensures,
+      c.projection_if.ensures,
+      period.word_or-2.ensures,
       mechanism.byte_or.ensures,
-      velocity.word-or.ensures,
-      rupture.rupture-if.ensures,
+      velocity.word_or.ensures,
+      rupture.rupture_if.ensures,
       magnitude.word.ensures,
-      magnitude.before.byte.ensures,
-      places.more-if4.ensures.0,
-      places.before.more-if3.ensures.0,
-      places.before.before.more-if2.ensures.0,
-      places.before.before.before.more-if.ensures.0,
+      magnitude.byte.ensures,
+      places.more_if-projection_at.ensures.0,
+      places.more_if-period_at.ensures.0,
+      places.more_if-mechanism_at.ensures.0,
+      places.more_if-velocity_at.ensures.0,
     ) (sym (scenario_is start.args.s.now start.requires.passes))))

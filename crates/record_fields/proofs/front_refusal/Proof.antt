@@ -11,24 +11,24 @@ use Rattle.record_fields.proofs.front_refusal.Statement.{statement}
 use Rattle.record_fields.proofs.front_refusal.Tie as tie
 
 -- what the last check comes to, where those before it pass
-last : (c : tie.After-record-length) →
-    let s = c.before.before.before.before.before.before.args.s.now in
+last : (c : tie.After-record_length) →
+    let s = c.args.s.now in
     front_refusal s ≡ (7 when ltb (length s) c.record_length.result)
 unfolding front_refusal
 last c =
     let k = c.before.before in
-    let map = sym k.map-refusal.ensures ∙ c.before.if2.false in
-    simp (ne_eqb _ _ k.before.before.if1.false, map, sym c.record_length.ensures)
+    let map = sym k.map_refusal-k.ensures ∙ c.if-k-ne0.false in
+    simp (ne_eqb _ _ k.if-s-eq0.false, map, sym c.record_length.ensures)
 
 pub front_refusal_spec : {M : Type 1} → statement M
 unfolding front_refusal
 front_refusal_spec =
     tie.close
     (tie.spec
-    (λ c. simp (eq-eqb _ _ c.if1.true))
+    (λ c. simp (eq-eqb _ _ c.if-s-eq0.true))
     (λ c. search rules) (λ c κs. search rules)
-    (λ c. simp (ne_eqb _ _ c.before.before.before.if1.false, sym c.before.map-refusal.ensures)
-    (is_first _ _ c.if2.true))
+    (λ c. simp (ne_eqb _ _ c.if-s-eq0.false, sym c.map_refusal-k.ensures)
+    (is_first _ _ c.if-k-ne0.true))
     (λ c κs. search rules)
-    (λ c. rw (last c.before, lt-ltb _ _ c.if3.true))
-    (λ c. rw (last c.before, le-ltb _ _ c.if3.false)))
+    (λ c. rw (last c.before, lt-ltb _ _ c.if-s-record_length.true))
+    (λ c. rw (last c.before, le-ltb _ _ c.if-s-record_length.false)))

@@ -8,6 +8,6 @@ pub projection_if_spec : {M : Type 1} → statement M
 projection_if_spec =
     tie.close
     (tie.spec
-    (λ c κs. omega (arith, simp c.if1.true at c.before.before.requires))
-    (λ c. rw (c.before.if1.true, c.word.ensures) refl)
-    (λ c. simp c.if1.false))
+    (λ c κs. omega (arith, simp c.if-stands.true at c.requires))
+    (λ c. rw (c.if-stands.true, c.word.ensures) refl)
+    (λ c. simp c.if-stands.false))

@@ -9,12 +9,12 @@ use Rattle.record_fields.proofs.word.Statement.{statement}
 use Rattle.record_fields.proofs.word.Tie as tie
 
 -- both are bytes
-bytes : (c : tie.After-shared-slice-known2) →
-    let a = c.before.before.args in
+bytes : (c : tie.After-shared_slice_known-2-1) →
+    let a = c.args in
     (get_or a.s.now a.at 0 < 256) × (get_or a.s.now (a.at + 1) 0 < 256)
 bytes c =
-    let known = c.shared-slice-known2.given in
-    omega (arith, known c.before.before.args.at, known (c.before.before.args.at + 1))
+    let known = c.shared_slice_known-2-1.given in
+    omega (arith, known c.args.at, known (c.args.at + 1))
 
 pub word_spec : {M : Type 1} → statement M
 word_spec =
@@ -22,4 +22,4 @@ word_spec =
     (tie.spec
     (λ c. search rules) (λ c. search rules) (λ c. search rules) (λ c. omega (arith, bytes c))
     (λ c. omega (arith, bytes c)) (λ c. omega (arith, bytes c)) (λ c. omega (arith, bytes c))
-    (λ c. sym (word_at c.before.before.args.s.now c.before.before.args.at)))
+    (λ c. sym (word_at c.args.s.now c.args.at)))

@@ -7,6 +7,6 @@ pub word_or_spec : {M : Type 1} → statement M
 word_or_spec =
     tie.close
     (tie.spec
-    (λ c κs. omega (arith, simp c.if1.true at c.before.before.requires))
-    (λ c. simp c.before.if1.true c.word.ensures)
-    (λ c. simp c.if1.false))
+    (λ c κs. omega (arith, simp c.if-stands.true at c.requires))
+    (λ c. simp c.if-stands.true c.word.ensures)
+    (λ c. simp c.if-stands.false))

@@ -24,9 +24,9 @@ unfolding map_of
 returns c =
     let stands = c.before in
     let rupture = stands.before.before.before.before.before.before.before in
-    let x = rupture.before.before.args.x in
-    let projection_bit = rw stands.projection-stands.ensures at c.more-if5.ensures.0 in
-    let rupture_bit = rw rupture.before.rupture-stands.ensures at rupture.more-if.ensures.0 in
+    let x = rupture.args.x in
+    let projection_bit = rw stands.projection_stands.ensures at c.more_if.ensures.0 in
+    let rupture_bit = rw rupture.rupture_stands.ensures at rupture.more_if-rupture.ensures.0 in
     let projection = added (is_absent (projection_number x.projection)) 64 in
     let to_rupture = added (is_absent (rupture_number x.rupture)) 4 in
     let velocity = added_unless x.velocity absent_velocity 8 in

@@ -11,7 +11,7 @@ pub put_byte_spec : {M : Type 1} → statement M
 put_byte_spec =
     tie.close
     (tie.spec
-    (λ c. simp (eq-eqb _ _ c.if1.true) (record { place = omega arith; bytes = refl }))
-    (λ c. omega (arith, simp (ne_eqb _ _ c.if1.false) at c.before.requires))
+    (λ c. simp (eq-eqb _ _ c.if-x-absent.true) (record { place = omega arith; bytes = refl }))
+    (λ c. omega (arith, simp (ne_eqb _ _ c.if-x-absent.false) at c.requires))
     (λ c. search rules) (λ c. search rules)
-    (λ c. simp (ne_eqb _ _ c.if1.false) (search put_byte)))
+    (λ c. simp (ne_eqb _ _ c.if-x-absent.false) (search put_byte)))

@@ -9,6 +9,6 @@ pub put_end_spec : {M : Type 1} → statement M
 put_end_spec =
     tie.close
     (tie.spec
-    (λ c κs. omega (arith, end_length c.before.before.args.x))
-    (λ c κs. omega (arith, end_length c.before.before.before.before.before.before.args.x))
+    (λ c κs. omega (arith, end_length c.args.x))
+    (λ c κs. omega (arith, end_length c.args.x))
     (λ c. search rules) (λ c. search (rules, end_stores)))

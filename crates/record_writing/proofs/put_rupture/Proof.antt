@@ -10,7 +10,7 @@ put_rupture_spec =
     tie.close
     (tie.spec
     (λ c. search rules) (λ c. search rules)
-    (λ c κs. let k = c.before.before in rw k.d.given.1 at k.before.before.before.requires)
-    (λ c. rw c.enum_told.given.1 (record { place = omega arith; bytes = refl }))
+    (λ c κs. let k = c.before in rw k.in-At.is at k.requires)
+    (λ c. rw c.in-Absent.is (record { place = omega arith; bytes = refl }))
     (λ c. search rules)
-    (λ c. let k = c.before.before in rw k.before.before.before.d.given.1 k.put-number.ensures))
+    (λ c. let k = c.before.before in rw k.in-At.is k.put_number.ensures))

@@ -10,7 +10,7 @@ pub put_word_spec : {M : Type 1} → statement M
 put_word_spec =
     tie.close
     (tie.spec
-    (λ c. simp (eq-eqb _ _ c.if1.true) (record { place = omega arith; bytes = refl }))
-    (λ c κs. simp (ne_eqb _ _ c.before.if1.false) at c.before.before.before.requires)
+    (λ c. simp (eq-eqb _ _ c.if-x-absent.true) (record { place = omega arith; bytes = refl }))
+    (λ c κs. simp (ne_eqb _ _ c.if-x-absent.false) at c.requires)
     (λ c. search rules)
-    (λ c. simp (ne_eqb _ _ c.before.before.before.before.if1.false) c.before.before.put-number.ensures))
+    (λ c. simp (ne_eqb _ _ c.if-x-absent.false) c.put_number.ensures))

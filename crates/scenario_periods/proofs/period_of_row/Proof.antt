@@ -8,5 +8,5 @@ pub period_of_row_spec : {M : Type 1} → statement M
 period_of_row_spec =
     tie.close
     (tie.spec
-    (λ c κs. search rules) (λ c. rw c.before.if1.true c.idriss-period.ensures)
-    (λ c κs. search rules) (λ c. rw (ne_eqb _ 1 c.before.if1.false) c.boore-atkinson-period.ensures))
+    (λ c κs. search rules) (λ c. rw c.if-model-eq1.true c.idriss_period.ensures)
+    (λ c κs. search rules) (λ c. rw (ne_eqb _ 1 c.if-model-eq1.false) c.boore_atkinson_period.ensures))
