@@ -8,7 +8,6 @@ places, old name and new name. A path from a place, as c.before.before.lookup.gi
 written as it reads from the new one: an arm of a match is one place, and fields of earlier places need no `before`.
 """
 
-import glob
 import json
 import os
 import re
@@ -22,24 +21,8 @@ def dashed(word):
     return word.replace("_", "-")
 
 
-def clause_names(root):
-    """For each function of the repository the names of its ensures and requires, where it has several."""
-    names = {}
-    for path in glob.glob(os.path.join(root, "*", "src", "*.rt")):
-        crate = path.split(os.sep)[-3]
-        text = open(path, encoding="utf-8").read()
-        for m in re.finditer(r"\bfn (\w+)\b.*?^\{", text, re.M | re.S):
-            kinds = {}
-            for kind in ("requires", "ensures"):
-                kinds[kind] = re.findall(rf"^    {kind} (\w+) \{{", m.group(0), re.M)
-            names[f"{crate}::{m.group(1)}"] = kinds
-    return names
-
-
 class Function:
-    def __init__(self, crate, name, f, clauses):
-        self.own = clauses.get(f"{crate}::{name}", {"requires": [], "ensures": []})
-        self.clauses = clauses
+    def __init__(self, f):
         self.needs = {}
         self.need_place = {}
         self.order = []
@@ -47,7 +30,7 @@ class Function:
             self.needs[dashed(old)] = new
             self.need_place[dashed(old)] = dashed(at)
             self.order.append(dashed(at))
-        self.new, self.parent, self.node, self.fields, self.callee = {}, {}, {}, {}, {}
+        self.new, self.parent, self.node, self.fields = {}, {}, {}, {}
         first = {}
         for (place, parent, (old, new), callee, _), by_name, arm in zip(f["places"], f["places_by_name"], f["arms"]):
             place = dashed(place)
@@ -68,12 +51,15 @@ class Function:
                     self.fields.setdefault(dashed(old), [])
                     if ((), new) not in self.fields[dashed(old)]:
                         self.fields[dashed(old)].append(((), new))
-            if old and callee:
-                self.callee[dashed(old)] = callee
         self.above = {}
         for node, place in first.items():
             up = self.parent[place]
             self.above[node] = self.node[up] if up else None
+        # an arm counts as its last place, which is the one that a goal is at
+        for place, node in self.node.items():
+            if node[0] == "arm":
+                last = [q for q in self.node if self.node[q] == node][-1]
+                self.new[place] = self.new[last]
         self.loops = [(old, new) for (old, new), _ in f["loops"]]
 
     def hops(self, start, goal):
@@ -101,12 +87,7 @@ class Function:
                     best = (path, new)
             if best:
                 tail = rest[1 + len(best[0]) :]
-                named = self.clauses.get(self.callee.get(head, ""), {}).get("ensures", [])
-                if len(tail) > 1 and tail[0] == "ensures" and tail[1].isdigit() and int(tail[1]) < len(named):
-                    tail[1] = named[int(tail[1])]
                 return ["." + p for p in best[1].split(".") + tail], None
-        if head == "requires" and len(rest) > 1 and rest[1].isdigit() and int(rest[1]) < len(self.own["requires"]):
-            rest = [rest[0], self.own["requires"][int(rest[1])]] + rest[2:]
         return ["." + p for p in rest], None
 
     def body(self, text, places):
@@ -215,7 +196,6 @@ class Function:
 def main():
     crate, names = sys.argv[1:3]
     crate = os.path.abspath(crate)
-    clauses = clause_names(os.path.dirname(crate))
     table = json.load(open(names, encoding="utf-8"))
     for key, f in table.items():
         m = re.match(r"Rattle-(\w+)-proofs\.(.*)\.Lts$", key)
@@ -226,7 +206,7 @@ def main():
             print("   no file", path)
             continue
         text = open(path, encoding="utf-8").read()
-        new = Function(m.group(1), m.group(2), f, clauses).turn(text)
+        new = Function(f).turn(text)
         if new != text:
             open(path, "w", encoding="utf-8").write(new)
             print("   turned", m.group(2))

@@ -10,27 +10,27 @@ use Rattle.boore_atkinson_site.proofs.cubic.Tie as tie
 sum_requires : tie.Need-sum-requires
 sum_requires c κs =
     let at_product2 = c.before.before in
-    let z = given at_product2.before.before.requires in
-    rw (at_product2.product2.ensures, c.product4.ensures)
-    (rw (c.before.product3.ensures, at_product2.before.product.ensures) (sum_fits (first z) (second z) tt))
+    let z = given at_product2.requires in
+    rw (at_product2.product.ensures, c.product-3.ensures)
+    (rw (c.product-2.ensures, at_product2.product-square.ensures) (sum_fits (first z) (second z) tt))
 
 returns : tie.Need-returns
 unfolding cubic_of
 returns c =
     let at_product3 = c.before.before in
     let at_product = at_product3.before.before in
-    as_sized (rw (c.sum.ensures, at_product3.before.product2.ensures, c.before.product4.ensures)
-    (rw (at_product3.product3.ensures, at_product.product.ensures))) (cubic_sized at_product.before.requires)
+    as_sized (rw (c.sum.ensures, at_product3.product.ensures, c.product-3.ensures)
+    (rw (at_product3.product-2.ensures, at_product.product-square.ensures))) (cubic_sized at_product.requires)
 
 pub cubic_spec : {M : Type 1} → statement M
 cubic_spec =
     tie.close
     (tie.spec
     (λ c κs. let z = given c.requires in product_fits z z tt)
-    (λ c κs. rw c.product.ensures (product_fits (pair c_over tt) (square (given c.before.requires)) tt))
+    (λ c κs. rw c.product-square.ensures (product_fits (pair c_over tt) (square (given c.requires)) tt))
     (λ c κs.
-    let z = given c.before.before.requires in rw c.before.product.ensures (product_fits (square z) z tt))
+    let z = given c.requires in rw c.product-square.ensures (product_fits (square z) z tt))
     (λ c κs.
-    rw (c.product3.ensures, c.before.before.product.ensures)
-    (product_fits (pair d_over tt) (cube (given c.before.before.before.requires)) tt))
+    rw (c.product-2.ensures, c.product-square.ensures)
+    (product_fits (pair d_over tt) (cube (given c.requires)) tt))
     sum_requires returns)

@@ -16,8 +16,8 @@ ln c = vs30_ln c.requires.3 (omega arith) (omega arith)
 returns : tie.Need-returns
 unfolding fast_slope_of vs30_ln_of
 returns c =
-    let p = c.before.before.before.requires in
-    as_sized (rw (c.multiple.ensures, c.before.before.product.ensures) (rw (p.3, lt-ltb _ _ p.2)))
+    let p = c.requires in
+    as_sized (rw (c.multiple.ensures, c.product-ratio.ensures) (rw (p.3, lt-ltb _ _ p.2)))
     (fast_sized p.0 (omega arith) p.2)
 
 pub fast_slope_spec : {M : Type 1} → statement M
@@ -26,6 +26,6 @@ fast_slope_spec =
     (tie.spec
     (λ c κs. product_fits (ln c) (pair over_fast tt) tt) (λ c. search rules) (λ c. search rules)
     (λ c κs.
-    rw c.before.product.ensures
+    rw c.product-ratio.ensures
     (multiple_fits 3_800_000 (omega arith) (product (ln c.before.before) (pair over_fast tt)) tt))
     returns)

@@ -20,16 +20,16 @@ linear_spec =
     tie.close
     (tie.spec
     (λ c. search rules) (λ c. search rules)
-    (λ c κs. let p = c.before.requires in multiple_fits 15_000_000 (omega arith) (vs30_ln p.3 p.1 p.2) tt)
+    (λ c κs. let p = c.requires in multiple_fits 15_000_000 (omega arith) (vs30_ln p.3 p.1 p.2) tt)
     (λ c κs. search rules)
     (λ c.
     let t = c.before.before in
     let start = t.before.before in
-    as_signed (rw (t.multiple.ensures, c.exact.ensures) (rw (start.requires.3, lt-ltb _ _ c.before.if1.true)))
+    as_signed (rw (t.multiple-term.ensures, c.exact.ensures) (rw (start.requires.3, lt-ltb _ _ c.if-v-lt7600.true)))
     (sized start))
     (λ c κs. search rules)
     (λ c.
     let t = c.before.before in
     let start = t.before.before in
-    as_signed (rw (t.multiple.ensures, c.exact2.ensures) (rw (start.requires.3, le-ltb _ _ c.before.if1.false)))
+    as_signed (rw (t.multiple-term.ensures, c.exact-2.ensures) (rw (start.requires.3, le-ltb _ _ c.if-v-lt7600.false)))
     (sized start)))

@@ -13,17 +13,17 @@ use Rattle.boore_atkinson_site.proofs.nonlinear_part.Tie as tie
 sized : (c : tie.Start) → SignedSized (nonlinear_by c.args.s c.args.v c.args.q) nonlinear_most nonlinear_most
 sized c = nonlinear_by_sized c.requires.0 c.requires.1 c.requires.3
 
-returns : tie.Need-returns-2
+returns : tie.Need-returns
 unfolding nonlinear_by
 returns c =
     let at_slope = c.before.before in
-    as_signed (rw (c.before.product.ensures, c.product2.ensures, at_slope.slope.ensures.0))
+    as_signed (rw (c.product.ensures, c.product-2.ensures, at_slope.slope-n.ensures.0))
     (sized at_slope.before.before)
 
 pub nonlinear_part_spec : {M : Type 1} → statement M
 nonlinear_part_spec =
     tie.close
     (tie.spec
-    (λ c. let a = c.before.args in as_signed (flat a.s a.v a.q c.if1.true) (sized c.before))
+    (λ c. let a = c.args in as_signed (flat a.s a.v a.q c.if-v-ge7600.true) (sized c.before))
     (λ c κs. search rules) (λ c κs. search rules)
-    (λ c κs. product_takes c.before.slope.ensures.1 c.before.before.before.requires.3 (omega arith)) returns)
+    (λ c κs. product_takes c.slope-n.ensures.1 c.requires.3 (omega arith)) returns)

@@ -18,18 +18,18 @@ slope_spec =
     (tie.spec
     (λ c. search rules) (λ c. search rules) (λ c κs. search rules)
     (λ c.
-    as_sized (rw (le-leb _ _ c.before.before.if1.true) c.exact.ensures) (sized c.before.before.before))
+    as_sized (rw (le-leb _ _ c.if-v-le1800.true) c.exact.ensures) (sized c.before.before.before))
     (λ c κs. search rules)
     (λ c.
-    as_sized (rw (lt-leb _ _ c.before.before.if1.false, le-leb _ _ c.before.if2.true)
-    c.slow-slope.ensures.0) (sized c.before.before.before))
-    (λ c κs. search rules)
-    (λ c.
-    let at_if2 = c.before.before in
-    as_sized (rw (lt-leb _ _ at_if2.before.if1.false, lt-leb _ _ at_if2.if2.false)
-    (rw (lt-ltb _ _ c.before.if3.true) c.fast-slope.ensures.0)) (sized at_if2.before.before))
+    as_sized (rw (lt-leb _ _ c.if-v-le1800.false, le-leb _ _ c.if-v-le3000.true)
+    c.slow_slope.ensures.0) (sized c.before.before.before))
     (λ c κs. search rules)
     (λ c.
     let at_if2 = c.before.before in
-    as_sized (rw (lt-leb _ _ at_if2.before.if1.false, lt-leb _ _ at_if2.if2.false)
-    (rw (le-ltb _ _ c.before.if3.false) c.exact2.ensures)) (sized at_if2.before.before)))
+    as_sized (rw (lt-leb _ _ at_if2.if-v-le1800.false, lt-leb _ _ at_if2.if-v-le3000.false)
+    (rw (lt-ltb _ _ c.if-v-lt7600.true) c.fast_slope.ensures.0)) (sized at_if2.before.before))
+    (λ c κs. search rules)
+    (λ c.
+    let at_if2 = c.before.before in
+    as_sized (rw (lt-leb _ _ at_if2.if-v-le1800.false, lt-leb _ _ at_if2.if-v-le3000.false)
+    (rw (le-ltb _ _ c.if-v-lt7600.false) c.exact-2.ensures)) (sized at_if2.before.before)))

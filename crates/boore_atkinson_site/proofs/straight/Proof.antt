@@ -9,8 +9,8 @@ use Rattle.boore_atkinson_site.proofs.straight.Tie as tie
 returns : tie.Need-returns
 unfolding straight_of
 returns c =
-    let p = c.before.before.requires in
-    let e = c.before.min.ensures in
+    let p = c.requires in
+    let e = c.min.ensures in
     (rw e refl, rw e (straight_sized p.0 p.1))
 
 pub straight_spec : {M : Type 1} → statement M

@@ -13,10 +13,10 @@ use Rattle.boore_atkinson_site.proofs.transition_z.Tie as tie
 returns : tie.Need-returns
 unfolding z_of
 returns c =
-    let p = c.before.before.requires in
-    let b = c.before.before.args.b in
+    let p = c.requires in
+    let b = c.args.b in
     let same : minus_ln_a1.low - min b.high minus_ln_a1.low ≡ minus_ln_a1.low - b.high = omega arith in
-    as_sized (rw (c.before.min.ensures, c.max.ensures, same)) (z_sized p.0 p.1 p.2)
+    as_sized (rw (c.min.ensures, c.max.ensures, same)) (z_sized p.0 p.1 p.2)
 
 pub transition_z_spec : {M : Type 1} → statement M
 transition_z_spec =

@@ -10,5 +10,5 @@ unfolding vs30_ln_of
 vs30_ln_spec =
     tie.close
     (tie.spec
-    (λ c κs. search rules) (λ c. rw (lt-ltb _ _ c.before.if1.true) c.ln.ensures.0)
-    (λ c κs. search rules) (λ c. rw (le-ltb _ _ c.before.if1.false) c.ln2.ensures.0))
+    (λ c κs. search rules) (λ c. rw (lt-ltb _ _ c.if-v-lt7600.true) c.ln.ensures.0)
+    (λ c κs. search rules) (λ c. rw (le-ltb _ _ c.if-v-lt7600.false) c.ln-2.ensures.0))

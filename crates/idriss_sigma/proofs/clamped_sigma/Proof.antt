@@ -18,10 +18,10 @@ clamped_sigma_spec =
     (λ c.
     let term = c.before.before.before in
     c.between.ensures ∙
-    rw (term.period-term.ensures.0, lt-ltb term.before.before.args.t 1_000 (omega arith)))
+    rw (term.period_term-term.ensures.0, lt-ltb term.args.t 1_000 (omega arith)))
     (λ c κs. omega arith)
     (λ c. omega arith) (λ c. omega arith) (λ c κs. omega arith)
     (λ c.
     let term = c.before.before.before in
-    c.between2.ensures ∙
-    rw (term.period-term2.ensures.0, le-ltb term.before.before.args.t 1_000 (omega arith))))
+    c.between-2.ensures ∙
+    rw (term.period_term-term-2.ensures.0, le-ltb term.args.t 1_000 (omega arith))))

@@ -7,14 +7,14 @@ use Rattle.idriss_sigma.proofs.period_term.Statement.{statement}
 use Rattle.idriss_sigma.proofs.period_term.Tie as tie
 
 term_is : (c : tie.After-multiple) →
-    let a = c.before.before.args in
+    let a = c.args in
     c.multiple.result ≡ period_term_of a.a a.b
 unfolding period_term_of
-term_is c = rw (c.multiple.ensures, c.before.ln.ensures.0)
+term_is c = rw (c.multiple.ensures, c.ln.ensures.0)
 
 pub period_term_spec : {M : Type 1} → statement M
 period_term_spec =
     tie.close
     (tie.spec
-    (λ c κs. search rules) (λ c κs. rw c.ln.ensures.0 (term_fits c.before.requires))
-    (λ c. (term_is c, rw (term_is c) (term_sized c.before.before.requires))))
+    (λ c κs. search rules) (λ c κs. rw c.ln.ensures.0 (term_fits c.requires))
+    (λ c. (term_is c, rw (term_is c) (term_sized c.requires))))

@@ -10,6 +10,6 @@ sigma_spec =
     tie.close
     (tie.spec
     (λ c κs. search rules) (λ c κs. search rules)
-    (λ c κs. omega arith) (λ c. sigma_ends c.clamped-sigma.ensures (omega arith) (omega arith))
-    (λ c κs. omega arith) (λ c. sigma_ends c.clamped-sigma2.ensures (omega arith) (omega arith))
-    (λ c κs. omega arith) (λ c. sigma_ends c.clamped-sigma3.ensures (omega arith) (omega arith)))
+    (λ c κs. omega arith) (λ c. sigma_ends c.clamped_sigma.ensures (omega arith) (omega arith))
+    (λ c κs. omega arith) (λ c. sigma_ends c.clamped_sigma-then-period-ge3000.ensures (omega arith) (omega arith))
+    (λ c κs. omega arith) (λ c. sigma_ends c.clamped_sigma-2.ensures (omega arith) (omega arith)))

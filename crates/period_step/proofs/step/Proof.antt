@@ -8,4 +8,4 @@ pub step_spec : {M : Type 1} → statement M
 step_spec =
     tie.close
     (tie.spec (λ c. search rules) (λ c κs. search rules)
-    (λ c. rw (c.ln.ensures.0, c.before.before.before.requires.1) refl))
+    (λ c. rw (c.ln.ensures.0, c.requires.1) refl))

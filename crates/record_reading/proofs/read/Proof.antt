@@ -11,8 +11,8 @@ read_spec =
     (tie.spec
     (λ c κs. search rules) (λ c. search rules) (λ c. search rules)
     (λ c.
-    let k = rw c.before.x.given.1 at c.before.before.before.read-with-basis.ensures in
+    let k = rw c.in-Read.is at c.read_with_basis.ensures in
     ((read_of_lem _ (sym k.0)).0, k.1))
     (λ c.
-    let k = rw c.before.k.given.1 at c.before.before.before.read-with-basis.ensures in
+    let k = rw c.in-Refused.is at c.read_with_basis.ensures in
     ((read_of_lem _ (sym k.0)).0, k.1)))

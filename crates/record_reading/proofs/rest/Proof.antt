@@ -11,9 +11,9 @@ use Rattle.record_theory.proofs.ReadingLaws.{ReadAs, read_as, not_read}
 use Rattle.record_reading.proofs.rest.Statement.{statement}
 use Rattle.record_reading.proofs.rest.Tie as tie
 
-as_read : (c : tie.After-n) →
-    ReadAs c.before.before.before.before.args.s.now c.n.given.0.0 c.n.given.0.1.0
-as_read c = read_as _ _ _ (sym c.before.before.read.ensures.0 ∙ c.n.given.1)
+as_read : (c : tie.In-Read) →
+    ReadAs c.args.s.now c.in-Read.field-0 c.in-Read.n
+as_read c = read_as _ _ _ (sym c.read.ensures.0 ∙ c.in-Read.is)
 
 -- a part that begins at n and ends with s
 all_after : (s : List ℕ) (n : ℕ) → take (length s - n) (drop n s) ≡ drop n s
@@ -24,12 +24,12 @@ rest_spec =
     tie.close
     (tie.spec
     (λ c κs. search rules) (λ c. search rules)
-    (λ c. omega (arith, as_read c.before))
-    (λ c. omega (arith, as_read c.before))
+    (λ c. omega (arith, as_read c))
+    (λ c. omega (arith, as_read c))
     (λ c. search rules) (λ c. search rules) (λ c. search rules)
     (λ c.
-    let r = as_read c.before.before in
+    let r = as_read c.before in
     (rw (r.rest, all_after), rw r.place refl))
     (λ c.
-    let r = not_read _ _ (sym c.before.before.before.read.ensures.0 ∙ c.before.enum_told.given.1) in
+    let r = not_read _ _ (sym c.read.ensures.0 ∙ c.in-Refused.is) in
     (sym r.rest, rw (r.place, zero-add) refl)))
