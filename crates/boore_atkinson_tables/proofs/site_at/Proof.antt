@@ -14,26 +14,26 @@ use Rattle.boore_atkinson_theory.proofs.Rows.{site_limits_lem}
 use Rattle.boore_atkinson_tables.proofs.site_at.Statement.{statement}
 use Rattle.boore_atkinson_tables.proofs.site_at.Tie as tie
 
-abbrev invariant_loop : tie.invariant_loop
+abbrev invariant_loop : tie.invariant-loop-i
 invariant_loop k t row₀ i₀ row i = Found (site_parts no_row.site) t k row i
 
-abbrev decreases_loop : tie.decreases_loop
+abbrev decreases_loop : tie.decreases-loop-i
 decreases_loop k t row₀ i₀ row i = row_count - i
 
 -- at row k it is the row read, and past it the row that was held
-again : tie.Need-loop-preserved invariant_loop decreases_loop
+again : tie.Need-loop-i-preserved invariant_loop decreases_loop
 unfolding up down ◌over◌
 again c =
-    let inv = c.before.before.loop.invariant in
-    ⊎_elim (λ w h. w.2 ∙ rw w.0.taken refl) (λ w h. w.1 ∙ inv (omega arith)) c.if1.branch
+    let inv = c.loop-i.invariant in
+    ⊎_elim (λ w h. w.row-is ∙ rw w.if-i-k.true refl) (λ w h. w.row-is ∙ inv (omega arith)) c.if-i-k.branch-raw
 
 returns : tie.Need-returns invariant_loop decreases_loop
 unfolding row_at
 returns c =
     let a = c.before.before.before in
-    let h = a.before.requires in
+    let h = a.requires in
     let same =
-    row_found site_parts table3 no_row.site _ _ a.table_3.ensures (omega arith) c.before.loop.invariant in
+    row_found site_parts table3 no_row.site _ _ a.table_3-t.ensures (omega arith) c.loop-i.invariant in
     (same, rw same (site_limits_lem _ h).sizes)
 
 pub site_at_spec : {M : Type 1} → statement M
@@ -41,5 +41,5 @@ unfolding up down ◌over◌
 site_at_spec =
     tie.close
     (tie.spec
-    invariant_loop decreases_loop (λ c κs. tt) (λ c. search rules) (λ c. first _ c.before.table_3.result _) (λ c. search rules)
+    invariant_loop decreases_loop (λ c κs. tt) (λ c. search rules) (λ c. first _ c.table_3-t.result _) (λ c. search rules)
     (λ c. search rules) (λ c. search rules) (λ c. omega arith) again returns)

@@ -7,5 +7,5 @@ pub row_at_spec : {M : Type 1} → statement M
 row_at_spec =
     tie.close
     (tie.spec
-    (λ c κs. search rules) (λ c. rw c.before.if1.true c.row_of.ensures) (λ c κs. search rules)
-    (λ c. rw c.before.if1.false c.row-of2.ensures))
+    (λ c κs. search rules) (λ c. rw c.if-table_3.true c.row_of.ensures) (λ c κs. search rules)
+    (λ c. rw c.if-table_3.false c.row_of-2.ensures))

@@ -15,27 +15,27 @@ use Rattle.idriss_theory.proofs.Rows.{row_limits}
 use Rattle.idriss_tables.proofs.row_of.Statement.{statement}
 use Rattle.idriss_tables.proofs.row_of.Tie as tie
 
-abbrev invariant_loop : tie.invariant_loop
+abbrev invariant_loop : tie.invariant-loop-i
 invariant_loop table_3 k t row₀ i₀ row i = Found (parts no_row) t k row i
 
-abbrev decreases_loop : tie.decreases_loop
+abbrev decreases_loop : tie.decreases-loop-i
 decreases_loop table_3 k t row₀ i₀ row i = row_count - i
 
 -- at row k it is the row read, and past it the row that was held
-again : tie.Need-loop-preserved invariant_loop decreases_loop
+again : tie.Need-loop-i-preserved invariant_loop decreases_loop
 unfolding up down ◌over◌
 again c =
-    let inv = c.before.before.loop.invariant in
-    ⊎_elim (λ w h. w.2 ∙ rw w.0.taken refl) (λ w h. w.1 ∙ inv (omega arith)) c.if1.branch
+    let inv = c.loop-i.invariant in
+    ⊎_elim (λ w h. w.row-is ∙ rw w.if-i-k.true refl) (λ w h. w.row-is ∙ inv (omega arith)) c.if-i-k.branch-raw
 
 returns : tie.Need-returns invariant_loop decreases_loop
 unfolding row_at
 returns c =
     let a = c.before.before.before in
-    let table_3 = a.before.args.table_3 in
-    let h = a.before.requires in
+    let table_3 = a.args.table_3 in
+    let h = a.requires in
     let same =
-    row_found parts (cond table_3 table3 table2) no_row _ _ a.table.ensures (omega arith) c.before.loop.invariant in
+    row_found parts (cond table_3 table3 table2) no_row _ _ a.table-t.ensures (omega arith) c.loop-i.invariant in
     (same, rw same (row_limits table_3 _ h).sizes)
 
 pub row_of_spec : {M : Type 1} → statement M
@@ -43,5 +43,5 @@ unfolding up down ◌over◌
 row_of_spec =
     tie.close
     (tie.spec
-    invariant_loop decreases_loop (λ c κs. tt) (λ c. search rules) (λ c. first _ c.before.table.result _) (λ c. search rules)
+    invariant_loop decreases_loop (λ c κs. tt) (λ c. search rules) (λ c. first _ c.table-t.result _) (λ c. search rules)
     (λ c. search rules) (λ c. search rules) (λ c. omega arith) again returns)

@@ -7,4 +7,4 @@ use Rattle.idriss_tables.proofs.table.Tie as tie
 
 pub table_spec : {M : Type 1} → statement M
 unfolding up down ◌over◌
-table_spec = tie.close (tie.spec (λ c. rw c.if1.true refl) (λ c. rw c.if1.false refl))
+table_spec = tie.close (tie.spec (λ c. rw c.if-table_3.true refl) (λ c. rw c.if-table_3.false refl))
