@@ -79,6 +79,8 @@ class Function:
             n = self.hops(place, at)
             return ([".before"] * n if n is not None else ["?"]), at
         head = dashed(rest[0])
+        if head not in self.fields and head.removesuffix("-lem") in self.fields:
+            head = head.removesuffix("-lem")
         if head in self.fields:
             best = None
             for path, new in self.fields[head]:
@@ -88,6 +90,8 @@ class Function:
             if best:
                 tail = rest[1 + len(best[0]) :]
                 return ["." + p for p in best[1].split(".") + tail], None
+        if rest[0] == "args" and len(rest) > 1:
+            rest = [rest[0], rest[1].replace("-", "_")] + rest[2:]
         return ["." + p for p in rest], None
 
     def body(self, text, places):

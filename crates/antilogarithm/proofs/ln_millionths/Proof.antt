@@ -22,8 +22,8 @@ ln_millionths_spec =
     tie.close
     (tie.spec
     (λ c κs. search rules)
-    (λ c κs. omega (arith, small (omega (arith, c.before.if1.true, c.before.before.requires)) c.ln.ensures.0))
-    (λ c. rw (c.between.ensures, c.before.ln.ensures.0, le-leb _ _ c.before.before.if1.true) refl)
+    (λ c κs. omega (arith, small (omega (arith, c.if-k-ge1000000.true, c.requires)) c.ln-e.ensures.0))
+    (λ c. rw (c.between.ensures, c.ln-e.ensures.0, le-leb _ _ c.if-k-ge1000000.true) refl)
     (λ c κs. search rules)
-    (λ c κs. omega (arith, small (omega (arith, c.before.if1.false, c.before.before.requires)) c.ln2.ensures.0))
-    (λ c. rw (c.between2.ensures, c.before.ln2.ensures.0, lt-leb _ _ c.before.before.if1.false) refl))
+    (λ c κs. omega (arith, small (omega (arith, c.if-k-ge1000000.false, c.requires)) c.ln-e-2.ensures.0))
+    (λ c. rw (c.between-2.ensures, c.ln-e-2.ensures.0, lt-leb _ _ c.if-k-ge1000000.false) refl))

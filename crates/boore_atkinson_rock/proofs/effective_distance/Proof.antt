@@ -9,17 +9,17 @@ use Rattle.boore_atkinson_theory.proofs.RockSizes.{Squares, squares, effective_d
 use Rattle.boore_atkinson_rock.proofs.effective_distance.Statement.{statement}
 use Rattle.boore_atkinson_rock.proofs.effective_distance.Tie as tie
 
-known : (c : tie.Start) → Squares c.args.projection-distance.0 c.args.h
+known : (c : tie.Start) → Squares c.args.projection_distance.0 c.args.h
 known c = squares c.requires.0 c.requires.1 c.requires.2
 
-small_root : (c : tie.After-ln) → c.before.root.result < 2 ^ 32
+small_root : (c : tie.After-ln) → c.root-k.result < 2 ^ 32
 small_root c =
-    rw c.before.root.ensures.0 (root_of_small (effective_domain (known c.before.before.before)).small)
+    rw c.root-k.ensures.0 (root_of_small (effective_domain (known c.before.before.before)).small)
 
 returns : tie.Need-returns
 unfolding effective_of km_of
 returns c =
-    rw (c.before.root.ensures.0, c.ln.ensures.0) (refl, effective_sized (known c.before.before.before))
+    rw (c.root-k.ensures.0, c.ln.ensures.0) (refl, effective_sized (known c.before.before.before))
 
 pub effective_distance_spec : {M : Type 1} → statement M
 effective_distance_spec =

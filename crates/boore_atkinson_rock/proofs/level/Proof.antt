@@ -15,9 +15,9 @@ level_spec =
     (λ c. search rules) (λ c. search rules) (λ c. search rules) (λ c. search rules) (λ c. search rules)
     (λ c. search rules) (λ c. search rules) (λ c. search rules) (λ c. search rules) (λ c. search rules)
     (λ c. search rules) (λ c. search rules) (λ c. search rules) (λ c. search rules) (λ c. search rules)
-    (λ c. search rules) (λ c. (rw c.before.before.match.keys1 refl, omega arith))
-    (λ c. (rw c.before.before.match.keys2 refl, omega arith))
-    (λ c. (rw c.before.before.match.keys3 refl, omega arith))
+    (λ c. search rules) (λ c. (rw c.in-9.is refl, omega arith))
+    (λ c. (rw c.in-0.is refl, omega arith))
+    (λ c. (rw c.in-1.is refl, omega arith))
     (λ c.
-    let k = c.before.before.match.rest in
+    let k = c.in_default.in_default-own.rest in
     (simp (ne_eqb _ 9 k.0.0.1, ne_eqb _ 0 k.0.1, ne_eqb _ 1 k.1) refl, omega arith)))

@@ -9,12 +9,12 @@ use Rattle.boore_atkinson_rock.proofs.minus_p.Statement.{statement}
 use Rattle.boore_atkinson_rock.proofs.minus_p.Tie as tie
 
 -- the gain is at most the loss: −p is above zero
-order : (c : tie.After-rock) → c.rock.result.gain.low ≤ c.rock.result.loss.low
+order : (c : tie.After-rock-a) → c.rock-a.result.gain.low ≤ c.rock-a.result.loss.low
 order c =
     let at_pga = c.before.before.before.before in
     let start = at_pga.before in
-    rw (c.rock.ensures.0, c.before.pga-magnitude.ensures.0)
-    (pga_order start.args.mechanism _ at_pga.pga-distance.ensures.1 start.requires.1)
+    rw (c.rock-a.ensures.0, c.pga_magnitude.ensures.0)
+    (pga_order start.args.mechanism _ at_pga.pga_distance-r.ensures.1 start.requires.1)
 
 returns : tie.Need-returns
 unfolding minus_p_of
@@ -22,10 +22,10 @@ returns c =
     let at_rock = c.before.before in
     let at_effective = at_rock.before.before in
     let at_pga = at_effective.before.before in
-    let p = at_pga.before.requires in
-    as_sized (rw (at_rock.rock.ensures.0, at_effective.effective-distance.ensures.0)
-    (rw (at_pga.pga-distance.ensures.0, at_rock.before.pga-magnitude.ensures.0)))
-    (minus_p_sized at_pga.before.args.mechanism p.0 p.1 p.2)
+    let p = at_pga.requires in
+    as_sized (rw (at_rock.rock-a.ensures.0, at_effective.effective_distance-s.ensures.0)
+    (rw (at_pga.pga_distance-r.ensures.0, at_rock.pga_magnitude.ensures.0)))
+    (minus_p_sized at_pga.args.mechanism p.0 p.1 p.2)
 
 pub minus_p_spec : {M : Type 1} → statement M
 minus_p_spec =

@@ -11,7 +11,7 @@ returns : tie.Need-returns
 unfolding sigma_of ends_of
 returns c =
     let k = c.before.before in
-    let total = c.before.sigma-by-row in
+    let total = c.sigma_by_row-z in
     let e = c.between.ensures ∙ ap ends_of (sym total.ensures.0) in
     (e, rw e (sigma_of_promise k.args.k k.args.mechanism k.requires))
 

@@ -11,9 +11,9 @@ returns : tie.Need-returns
 unfolding sigma_pair_of
 returns c =
     let at_total = c.before in
-    let a = at_total.before.args in
-    rw (c.total.ensures, at_total.total_at_lem.ensures)
-    (refl, omega (arith, sigma_pair_of_sized a.k a.mechanism at_total.before.requires))
+    let a = at_total.args in
+    rw (c.total.ensures, at_total.total_at.ensures)
+    (refl, omega (arith, sigma_pair_of_sized a.k a.mechanism at_total.requires))
 
 pub sigma_by_row_spec : {M : Type 1} → statement M
 sigma_by_row_spec =

@@ -13,10 +13,10 @@ unfolding two_rows_of
 returns c =
     let second = c.before in
     let first = second.before.before in
-    let k = first.before.args.k in
+    let k = first.args.k in
     let here : k + 1 - 1 ≡ k = omega arith in
-    rw (c.exact-pair2.ensures, second.before.exact-pair.ensures, lt-ltb k (k + 1) (omega arith), here)
-    (rw (← second.sigma-by-row2.ensures.0, ← first.sigma-by-row.ensures.0) refl)
+    rw (c.exact_pair-2.ensures, second.exact_pair.ensures, lt-ltb k (k + 1) (omega arith), here)
+    (rw (← second.sigma_by_row-2.ensures.0, ← first.sigma_by_row.ensures.0) refl)
 
 pub sigma_rows_spec : {M : Type 1} → statement M
 sigma_rows_spec =

@@ -16,12 +16,11 @@ abbrev μ : Measures 0 kinds.ps ℕ
 μ κs a = a.0
 
 -- the measure is t, and below t at the call that is made
-pub +decimal-length-spec : {M : Type 1} → statement M
-+decimal-length-spec =
+pub +decimal_length_spec : {M : Type 1} → statement M
++decimal_length_spec =
     close μ (λ t.
     lts.spec (and 0 kinds.ps (falls 0 kinds.ps ◌<◌ μ t) own.Pre, own.Post) (and 0 kinds.ps (is 0 kinds.ps μ t) own.Pre)
     own.Post
-    (λ c. omega (arith, ap length (one_digit _ c.if1.true)))
+    (λ c. omega (arith, ap length (one_digit _ c.if-n-lt10.true)))
     (λ c κs. omega arith) (λ c. search rules)
-    (λ c. let k = c.before.before in
-    omega (arith, more_length k.args.n c.before.if1.false k.ranges.n.fits, decimal_most k.args.n)))
+    (λ c. omega (arith, more_length c.args.n c.if-n-lt10.false c.ranges.n.fits, decimal_most c.args.n)))

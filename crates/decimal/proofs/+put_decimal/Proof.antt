@@ -17,22 +17,19 @@ abbrev μ : Measures 1 kinds.ps ℕ
 μ κs a = a.1.1.0
 
 -- the measure is t, and below t at the call that is made
-pub +put-decimal-spec : {M : Type 1} → statement M
-+put-decimal-spec =
+pub +put_decimal_spec : {M : Type 1} → statement M
++put_decimal_spec =
     close μ (λ t.
     lts.spec (and 1 kinds.ps (falls 1 kinds.ps ◌<◌ μ t) own.Pre, own.Post) (and 1 kinds.ps (is 1 kinds.ps μ t) own.Pre)
     own.Post
     (λ c. search rules) (λ c. search rules)
-    (λ c. omega (arith, ap length (one_digit _ c.if1.true)))
-    (λ c. omega (arith, ap length (one_digit _ c.if1.true)))
+    (λ c. omega (arith, ap length (one_digit _ c.if-n-lt10.true)))
+    (λ c. omega (arith, ap length (one_digit _ c.if-n-lt10.true)))
     (λ c. search rules)
-    (λ c. rw (one_digit _ c.if1.true) (search put_byte))
-    (λ c κs. omega (arith, more_length _ c.before.if1.false c.before.before.before.ranges.n.fits))
+    (λ c. rw (one_digit _ c.if-n-lt10.true) (search put_byte))
+    (λ c κs. omega (arith, more_length _ c.if-n-lt10.false c.ranges.n.fits))
     (λ c. search rules) (λ c. search rules)
-    (λ c. let e = c.before.before.before.before in
-    omega (arith, put_length, more_length _ e.if1.false e.before.before.ranges.n.fits))
-    (λ c. let e = c.before.before.before.before in
-    omega (arith, more_length _ e.if1.false e.before.before.ranges.n.fits))
+    (λ c. omega (arith, put_length, more_length _ c.if-n-lt10.false c.ranges.n.fits))
+    (λ c. omega (arith, more_length _ c.if-n-lt10.false c.ranges.n.fits))
     (λ c. search rules)
-    (λ c. let e = c.before.before.before.before in
-    rw (more_digits _ e.if1.false e.before.before.ranges.n.fits) (search (rules, put_then, put_byte))))
+    (λ c. rw (more_digits _ c.if-n-lt10.false c.ranges.n.fits) (search (rules, put_then, put_byte))))

@@ -10,6 +10,6 @@ number_spec =
     tie.close
     (tie.spec
     (λ c κs. search rules)
-    (λ c. too_short _ _ c.if1.true (search rules))
+    (λ c. too_short _ _ c.if-out-k.true (search rules))
     (λ c κs. search rules) (λ c. search rules)
-    (λ c. written _ _ refl c.before.before.put-decimal.ensures (search rules) (search rules)))
+    (λ c. written _ _ refl c.put_decimal.ensures (search rules) (search rules)))

@@ -9,4 +9,4 @@ fields_of_spec =
     tie.close
     (tie.spec
     (λ c κs. search rules) (λ c κs. search rules)
-    (λ c. rw (c.flagged-projection.ensures, c.before.flagged-rupture.ensures) refl))
+    (λ c. rw (c.flagged_projection-projection.ensures, c.flagged_rupture-rupture.ensures) refl))

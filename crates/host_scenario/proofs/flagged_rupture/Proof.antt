@@ -8,5 +8,5 @@ pub flagged_rupture_spec : {M : Type 1} → statement M
 flagged_rupture_spec =
     tie.close
     (tie.spec
-    (λ c. search rules) (λ c. search rules) (λ c. rw c.enum_told.given.1 refl)
-    (λ c. rw c.before.d.given.1 refl))
+    (λ c. search rules) (λ c. search rules) (λ c. rw c.in-Absent.is refl)
+    (λ c. rw c.in-At.is refl))

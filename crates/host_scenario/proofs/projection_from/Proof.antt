@@ -7,4 +7,4 @@ use Rattle.host_scenario.proofs.projection_from.Tie as tie
 pub projection_from_spec : {M : Type 1} → statement M
 projection_from_spec =
     tie.close
-    (tie.spec (λ c. simp (eq-eqb _ _ c.if1.true) refl) (λ c. simp (ne_eqb _ _ c.if1.false) refl))
+    (tie.spec (λ c. simp (eq-eqb _ _ c.if-flag-eq0.true) refl) (λ c. simp (ne_eqb _ _ c.if-flag-eq0.false) refl))

@@ -9,4 +9,4 @@ scenario_from_spec =
     tie.close
     (tie.spec
     (λ c κs. search rules) (λ c κs. search rules)
-    (λ c. rw (c.projection-from.ensures, c.before.rupture-from.ensures) refl))
+    (λ c. rw (c.projection_from.ensures, c.rupture_from.ensures) refl))

@@ -11,4 +11,4 @@ distance_ln_spec =
     tie.close
     (tie.spec
     (λ c. search rules) (λ c κs. search rules)
-    (λ c. rw c.ln-hundredths.ensures.0 (refl, ln_sized (far_domain c.before.requires))))
+    (λ c. rw c.ln_hundredths.ensures.0 (refl, ln_sized (far_domain c.requires))))

@@ -14,10 +14,10 @@ distance_term_spec =
     tie.close
     (tie.spec
     (λ c. search rules) (λ c. search rules) (λ c. search rules)
-    (λ c. let p = c.before.before.requires in omega (arith, (beta_bounds p.0 p.1 p.2).order))
-    (λ c. let p = c.before.before.requires in omega (arith, (beta_bounds p.0 p.1 p.2).order))
-    (λ c. let p = c.before.before.requires in (beta_bounds p.0 p.1 p.2).order)
-    (λ c κs. let p = c.before.before.requires in
+    (λ c. let p = c.requires in omega (arith, (beta_bounds p.0 p.1 p.2).order))
+    (λ c. let p = c.requires in omega (arith, (beta_bounds p.0 p.1 p.2).order))
+    (λ c. let p = c.requires in (beta_bounds p.0 p.1 p.2).order)
+    (λ c κs. let p = c.requires in
     multiple_takes (beta_bounds p.0 p.1 p.2).small p.3 (omega arith))
-    (λ c. let p = c.before.before.before.requires in
+    (λ c. let p = c.requires in
     rw c.multiple.ensures (refl, distance_sized p.0 p.1 p.2 p.3)))

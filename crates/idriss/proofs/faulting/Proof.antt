@@ -11,9 +11,9 @@ unfolding F
 faulting_spec =
     tie.close
     (tie.spec
-    (λ c. rw c.match.keys1 (refl, omega arith))
-    (λ c. rw c.match.keys2 (refl, omega arith))
-    (λ c. rw c.match.keys3 (refl, omega arith))
+    (λ c. rw c.in-2.is (refl, omega arith))
+    (λ c. rw c.in-3.is (refl, omega arith))
+    (λ c. rw c.in-4.is (refl, omega arith))
     (λ c.
-    let m = c.match.rest in
+    let m = c.in_default.in_default-own.rest in
     (simp (ne_eqb _ 2 m.0.0.1, ne_eqb _ 3 m.0.1, ne_eqb _ 4 m.1) refl, omega arith)))

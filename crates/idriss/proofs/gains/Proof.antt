@@ -10,8 +10,8 @@ use Rattle.idriss.proofs.gains.Statement.{statement}
 use Rattle.idriss.proofs.gains.Tie as tie
 
 -- φ F is at most 0.1
-part : (c : tie.After-faulting) → c.before.before.before.args.r.10 * c.faulting.result ≤ 10 * 1
-part c = mul-le-mul c.before.before.before.requires.0.phi c.faulting.ensures.1
+part : (c : tie.After-faulting) → c.args.r.10 * c.faulting.result ≤ 10 * 1
+part c = mul-le-mul c.requires.0.phi c.faulting.ensures.1
 
 pub gains_spec : {M : Type 1} → statement M
 unfolding gains_of
@@ -20,4 +20,4 @@ gains_spec =
     (tie.spec
     (λ c κs. search (rules, alpha_domain)) (λ c. search rules) (λ c κs. search rules)
     (λ c. omega (arith, part c)) (λ c. omega (arith, part c)) (λ c. omega (arith, part c))
-    (λ c. (rw (c.before.before.alpha-sum.ensures.0, c.faulting.ensures.0) refl, omega (arith, part c))))
+    (λ c. (rw (c.alpha_sum.ensures.0, c.faulting.ensures.0) refl, omega (arith, part c))))

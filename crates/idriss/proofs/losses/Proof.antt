@@ -10,7 +10,7 @@ use Rattle.idriss.proofs.losses.Statement.{statement}
 use Rattle.idriss.proofs.losses.Tie as tie
 
 -- −γ R is at most 1.75
-part : (c : tie.Start) → c.args.r.9 * c.args.rupture-distance ≤ 100 * 17_500
+part : (c : tie.Start) → c.args.r.9 * c.args.rupture_distance ≤ 100 * 17_500
 part c = mul-le-mul c.requires.0.gamma c.requires.3
 
 pub losses_spec : {M : Type 1} → statement M
@@ -22,4 +22,4 @@ losses_spec =
     (λ c. omega (arith, part c.before.before))
     (λ c. omega (arith, part c.before.before))
     (λ c. omega (arith, part c.before.before))
-    (λ c. (rw c.before.alpha-sum.ensures.0 refl, omega (arith, part c.before.before))))
+    (λ c. (rw c.alpha_sum.ensures.0 refl, omega (arith, part c.before.before))))

@@ -16,10 +16,10 @@ median_spec =
     (λ c κs.
     let v = c.before in
     let k = v.before.before.before in
-    rw (c.median-by-row.ensures, v.vs30_ln.ensures.0, v.before.distance_ln.ensures.0)
+    rw (c.median_by_row.ensures, v.vs30_ln-ln_v.ensures.0, v.distance_ln-ln_r.ensures.0)
     (moderate (median_pair_of_sized k.args.table_3 k.args.mechanism k.requires) (omega arith)))
     (λ c.
     let v = c.before.before in
     let k = v.before.before.before in
-    rw (c.ends.ensures, c.before.median-by-row.ensures, v.vs30_ln.ensures.0, v.before.distance_ln.ensures.0)
+    rw (c.ends.ensures, c.median_by_row.ensures, v.vs30_ln-ln_v.ensures.0, v.distance_ln-ln_r.ensures.0)
     (search, median_of_promise k.args.table_3 k.args.mechanism k.requires)))

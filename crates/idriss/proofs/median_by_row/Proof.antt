@@ -16,5 +16,5 @@ median_by_row_spec =
     let down = c.before.before.before.before in
     let site = down.before.before in
     let far = site.before in
-    rw (down.losses.ensures.0, down.before.gains.ensures.0, site.site-term.ensures.0)
-    (rw (far.distance-term.ensures.0, far.before.row_at_lem.ensures.0))))
+    rw (down.losses-down.ensures.0, down.gains-up.ensures.0, site.site_term-site.ensures.0)
+    (rw (far.distance_term-far.ensures.0, far.row_at-r.ensures.0))))

@@ -9,11 +9,11 @@ use Rattle.idriss_theory.specs.Evaluation.{median_pair_by}
 use Rattle.idriss.proofs.median_rows.Statement.{statement}
 use Rattle.idriss.proofs.median_rows.Tie as tie
 
-abbrev invariant_loop : tie.invariant_loop
+abbrev invariant_loop : tie.invariant-loop-i
 invariant_loop table_3 k last magnitude vs30 mechanism m d ln-r ln-v lower₀ upper₀ i₀ lower upper i =
     Passed k (λ j. median_pair_by (row_at table_3 j) m d ln-r ln-v mechanism) lower upper i × (i ≤ last + 1)
 
-abbrev decreases_loop : tie.decreases_loop
+abbrev decreases_loop : tie.decreases-loop-i
 decreases_loop table_3 k last magnitude vs30 mechanism m d ln-r ln-v lower₀ upper₀ i₀ lower upper i =
     last + 1 - i
 
@@ -23,15 +23,15 @@ median_rows_spec =
     (tie.spec
     invariant_loop decreases_loop (λ c. search rules) (λ c κs. search rules) (λ c κs. search rules) (λ c κs. search rules)
     (λ c κs. search rules)
-    (λ c. (none_passed _ _ c.before.no-pair.ensures c.no-pair2.ensures, omega arith))
+    (λ c. (none_passed _ _ c.no_pair-lower.ensures c.no_pair-upper.ensures, omega arith))
     (λ c κs. search rules) (λ c. search rules) (λ c. omega arith)
     (λ c.
-    let l = c.before.before.loop in
-    (one_passed _ _ l.i l.invariant.0 c.median-by-row.ensures, omega arith))
+    let l = c.loop-i in
+    (one_passed _ _ l.i l.invariant.0 c.median_by_row-upper.ensures, omega arith))
     (λ c.
-    let l = c.before.loop in
+    let l = c.loop-i in
     let v = c.before.before.before.before in
     let k = v.before.before.before in
     let end : l.i ≡ k.args.last + 1 = omega arith in
-    let p = rw (end, v.vs30_ln.ensures.0, v.before.distance_ln.ensures.0) at l.invariant.0 in
+    let p = rw (end, v.vs30_ln-ln_v.ensures.0, v.distance_ln-ln_r.ensures.0) at l.invariant.0 in
     all_passed k.args.k _ k.args.last k.requires.1 p))

@@ -14,5 +14,5 @@ site_term_spec =
     tie.close
     (tie.spec
     (λ c. search rules) (λ c. search rules)
-    (λ c κs. multiple_takes {m = 30_000_000} (omega arith) c.before.requires.1 (omega arith))
-    (λ c. let p = c.before.before.requires in rw c.multiple.ensures (refl, site_sized p.0 p.1)))
+    (λ c κs. multiple_takes {m = 30_000_000} (omega arith) c.requires.1 (omega arith))
+    (λ c. let p = c.requires in rw c.multiple.ensures (refl, site_sized p.0 p.1)))

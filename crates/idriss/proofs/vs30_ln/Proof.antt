@@ -11,4 +11,4 @@ vs30_ln_spec =
     tie.close
     (tie.spec
     (λ c κs. search rules) (λ c κs. search rules)
-    (λ c. rw (c.ln.ensures.0, c.before.min.ensures) (refl, ln_sized (site_domain c.before.before.requires))))
+    (λ c. rw (c.ln.ensures.0, c.min.ensures) (refl, ln_sized (site_domain c.requires))))
