@@ -12,9 +12,9 @@ unfolding curve_for
 curve_for_spec =
     tie.close
     (tie.spec
-    (λ c. rw (le-leb _ _ c.if1.true) (refl, omega arith))
+    (λ c. rw (le-leb _ _ c.if-v-ge7600.true) (refl, omega arith))
     (λ c κs. search rules) (λ c κs. search rules)
     (λ c.
     let q = c.curve.ensures in
     let p = c.before in
-    (rw (lt-leb _ _ p.before.if1.false, q.0, p.minus-p.ensures.0) refl, q.1)))
+    (rw (lt-leb _ _ p.if-v-ge7600.false, q.0, p.minus_p.ensures.0) refl, q.1)))

@@ -15,7 +15,7 @@ median_spec =
     (λ c κs. search rules) (λ c κs. search rules) (λ c κs. search rules)
     (λ c κs.
     let k = c.before.before.before in
-    rw c.median-by-row.ensures (moderate (median_pair_of_sized k.args.mechanism k.requires) (omega arith)))
+    rw c.median_by_row.ensures (moderate (median_pair_of_sized k.args.mechanism k.requires) (omega arith)))
     (λ c.
     let k = c.before.before.before.before in
-    rw (c.ends.ensures, c.before.median-by-row.ensures) (search, median_of_promise k.args.mechanism k.requires)))
+    rw (c.ends.ensures, c.median_by_row.ensures) (search, median_of_promise k.args.mechanism k.requires)))

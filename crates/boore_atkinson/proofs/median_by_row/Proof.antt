@@ -10,9 +10,9 @@ use Rattle.boore_atkinson.proofs.median_by_row.Tie as tie
 plus_requires_2 : tie.Need-plus-requires-2
 plus_requires_2 c κs =
     let n = c.before.before in
-    let first = plus_within n.before.before.rock.ensures.1 n.linear.ensures.1 in (
+    let first = plus_within n.rock-motion.ensures.1 n.linear-linear.ensures.1 in (
       rw c.plus.ensures (moderate first (omega arith)),
-      moderate c.before.nonlinear-part.ensures.1 (omega arith),
+      moderate c.nonlinear_part-nonlinear.ensures.1 (omega arith),
     )
 
 returns : tie.Need-returns
@@ -24,11 +24,11 @@ returns c =
     let rock = site.before in
     let effective = rock.before.before in
     let row = effective.before.before in
-    let a = row.before.args in
-    rw (c.plus2.ensures, c.before.plus.ensures, rock.rock.ensures.0, linear.linear.ensures.0)
-    (rw (n.nonlinear-part.ensures.0, effective.effective-distance.ensures.0, row.before.requires.1.0)
-    (rw (curve_for_lem, row.distance-at.ensures.0, rock.before.magnitude-at.ensures.0)
-    (rw site.site-at.ensures.0)))
+    let a = row.args in
+    rw (c.plus-2.ensures, c.plus.ensures, rock.rock-motion.ensures.0, linear.linear-linear.ensures.0)
+    (rw (n.nonlinear_part-nonlinear.ensures.0, effective.effective_distance-effective.ensures.0, row.requires.1.0)
+    (rw (curve_for_lem, row.distance_at-row.ensures.0, rock.magnitude_at.ensures.0)
+    (rw site.site_at-s.ensures.0)))
 
 pub median_by_row_spec : {M : Type 1} → statement M
 median_by_row_spec =
@@ -37,9 +37,9 @@ median_by_row_spec =
     (λ c κs. search rules) (λ c. search rules) (λ c κs. search rules) (λ c κs. search rules) (λ c κs. search rules)
     (λ c κs. search rules) (λ c κs. search rules)
     (λ c κs.
-    let p = c.before.before.before.before.before.before.before.requires in
-    (c.before.site-at.ensures.1, p.0.0.slow, p.0.1, p.1.1))
+    let p = c.requires in
+    (c.site_at-s.ensures.1, p.0.0.slow, p.0.1, p.1.1))
     (λ c κs.
     let n = c.before in
-    (moderate n.before.before.rock.ensures.1 (omega arith), moderate n.linear.ensures.1 (omega arith)))
+    (moderate n.rock-motion.ensures.1 (omega arith), moderate n.linear-linear.ensures.1 (omega arith)))
     plus_requires_2 returns)

@@ -11,8 +11,8 @@ unfolding nonlinear_ends_of
 returns c =
     let curve = c.before.before in
     let at_site = curve.before.before in
-    rw (c.ends.ensures, c.before.nonlinear-part.ensures.0, curve.curve.ensures.0, at_site.site-at.ensures.0)
-    (refl, nonlinear_promise at_site.before.requires)
+    rw (c.ends.ensures, c.nonlinear_part.ensures.0, curve.curve.ensures.0, at_site.site_at.ensures.0)
+    (refl, nonlinear_promise at_site.requires)
 
 pub nonlinear_spec : {M : Type 1} → statement M
 nonlinear_spec =

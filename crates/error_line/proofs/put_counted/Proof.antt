@@ -7,15 +7,15 @@ use Rattle.enclosures_theory.proofs.Adding.{Placed, placed, then_part}
 use Rattle.error_line.proofs.put_counted.Statement.{statement}
 use Rattle.error_line.proofs.put_counted.Tie as tie
 
-known : (c : tie.After-slice-known3) →
+known : (c : tie.After-slice_known-3-1) →
     let d = c.before.before in
     let t = d.before.before.before.before in
-    Placed (decimal t.before.before.before.before.args.n) t.put-text.new.0 t.put-text.result
-    d.number.result 0 d.number.new.1.0
+    Placed (decimal t.args.n) t.put_text-next.new.out t.put_text-next.result
+    d.number-k.result 0 d.number-k.new.out
 known c =
     let d = c.before.before in
-    let n = d.before.before.before.before.before.before.before.before.args.n in
-    placed _ _ _ 0 (omega (arith, decimal_most n)) d.number.ensures
+    let n = d.args.n in
+    placed _ _ _ 0 (omega (arith, decimal_most n)) d.number-k.ensures
 
 pub put_counted_spec : {M : Type 1} → statement M
 put_counted_spec =

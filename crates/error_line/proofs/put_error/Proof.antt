@@ -3,10 +3,10 @@ use borrow.Author.Rules.{rules}
 use Rattle.error_line.proofs.put_error.Statement.{statement}
 use Rattle.error_line.proofs.put_error.Tie as tie
 
-output : tie.Need-returns-2
+output : tie.Need-returns-in_default
 output c =
-    let p = c.before.before.before.before.before in
-    rw (p.put.given.1, p.before.before.enum_told.given.1) (search rules)
+    let p = c.before.before.before.before in
+    rw (p.in-Failed-put.is, p.in_default.is) (search rules)
 
 pub put_error_spec : {M : Type 1} → statement M
 put_error_spec =
@@ -14,4 +14,4 @@ put_error_spec =
     (tie.spec
     (λ c. search rules) (λ c. search rules) (λ c. search rules) (λ c. search rules) (λ c. search rules)
     (λ c κs. search rules) (λ c. search rules) output (λ c κs. search rules) (λ c. search rules)
-    (λ c. rw c.before.before.before.before.before.got.given.1 (search rules)))
+    (λ c. rw c.in-Failed.is (search rules)))

@@ -10,10 +10,10 @@ use Rattle.enclosures_theory.proofs.Adding.{nothing, then_next}
 use Rattle.error_line.proofs.put_text.Statement.{statement}
 use Rattle.error_line.proofs.put_text.Tie as tie
 
-abbrev invariant_loop : tie.invariant_loop
+abbrev invariant_loop : tie.invariant-loop-i
 invariant_loop out₀ at text i₀ out i = (i ≤ length text) × Added (take i text) at out₀ (at + i) out
 
-abbrev decreases_loop : tie.decreases_loop
+abbrev decreases_loop : tie.decreases-loop-i
 decreases_loop out₀ at text i₀ out i = length text - i
 
 pub put_text_spec : {M : Type 1} → statement M
@@ -23,6 +23,6 @@ put_text_spec =
     invariant_loop decreases_loop
     (λ c. (omega arith, rw add-zero (search nothing)))
     (λ c. search rules) (λ c. search rules) (λ c. search rules) (λ c. search rules) (λ c. search rules)
-    (λ c. (omega arith, then_next _ _ c.before.loop-test.true c.before.before.loop.invariant.1 (omega arith)))
+    (λ c. (omega arith, then_next _ _ c.loop-i-test.true c.loop-i.invariant.1 (omega arith)))
     (λ c. search rules) (λ c. search rules)
-    (λ c. rw (take_all _ _ c.loop-test.false) at c.before.loop.invariant.1))
+    (λ c. rw (take_all _ _ c.loop-i-test.false) at c.loop-i.invariant.1))

@@ -11,10 +11,10 @@ use Rattle.page.proofs.put_last_line.Tie as tie
 known : (c : tie.After-slice-known2) →
     let l = c.before.before in
     let a = l.before.before.before.args in
-    Placed (last_line_of a.count) a.out.now a.at l.last_Line.result 1 l.last_Line.new.1.0
+    Placed (last_line_of a.count) a.out.now a.at l.last_line.result 1 l.last_line.new.out
 known c =
     let l = c.before.before in
-    placed _ _ _ 1 (omega (arith, last_line_most l.before.before.before.args.count)) l.last_Line.ensures
+    placed _ _ _ 1 (omega (arith, last_line_most l.before.before.before.args.count)) l.last_line.ensures
 
 pub put_last_line_spec : {M : Type 1} → statement M
 put_last_line_spec =

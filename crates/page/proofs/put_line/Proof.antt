@@ -11,7 +11,7 @@ use Rattle.page.proofs.put_line.Tie as tie
 known : (c : tie.After-slice-known2) →
     let l = c.before.before in
     let a = l.before.before.before.args in
-    Placed (line_of a.position a.a) a.out.now a.at l.line.result 1 l.line.new.1.1.0
+    Placed (line_of a.position a.a) a.out.now a.at l.line.result 1 l.line.new.out
 known c =
     let l = c.before.before in
     let a = l.before.before.before.args in

@@ -10,4 +10,4 @@ byte_at_spec =
     tie.close
     (tie.spec
     (λ c. search rules) (λ c. search rules)
-    (λ c. sym (get_or-eq_default c.before.args.s.now 0 c.if1.false)))
+    (λ c. sym (get_or-eq_default c.args.s.now 0 c.if-i-s.false)))

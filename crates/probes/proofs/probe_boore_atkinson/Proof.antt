@@ -13,11 +13,11 @@ probe_boore_atkinson_spec =
     tie.close
     (tie.spec
     (λ c κs. search rules)
-    (λ c κs. let t = taken _ _ c.before.boore_atkinson_takes.ensures c.if1.true in
+    (λ c κs. let t = taken _ _ c.boore_atkinson_takes.ensures c.if-boore_atkinson_takes.true in
     median_domain t.row (takes_boore_atkinson t.accepted))
     (λ c κs. search rules)
     (λ c. let i = c.before.before in
-    rw (← i.before.boore_atkinson_takes.ensures, i.if1.true)
-    (c.tell.ensures ∙ ap told c.before.median.ensures.0))
+    rw (← i.boore_atkinson_takes.ensures, i.if-boore_atkinson_takes.true)
+    (c.tell.ensures ∙ ap told c.median.ensures.0))
     (λ c κs. search rules)
-    (λ c. let i = c.before in rw (← i.before.boore_atkinson_takes.ensures, i.if1.false) c.none.ensures))
+    (λ c. let i = c.before in rw (← i.boore_atkinson_takes.ensures, i.if-boore_atkinson_takes.false) c.none.ensures))

@@ -11,10 +11,10 @@ unfolding probed_boore_atkinson_sigma
 probe_boore_atkinson_sigma_spec =
     tie.close
     (tie.spec
-    (λ c κs. search rules) (λ c κs. (taken _ _ c.before.boore_atkinson_takes.ensures c.if1.true).row)
+    (λ c κs. search rules) (λ c κs. (taken _ _ c.boore_atkinson_takes.ensures c.if-boore_atkinson_takes.true).row)
     (λ c κs. search rules)
     (λ c. let i = c.before.before in
-    rw (← i.before.boore_atkinson_takes.ensures, i.if1.true)
-    (c.tell.ensures ∙ ap told c.before.sigma.ensures.0))
+    rw (← i.boore_atkinson_takes.ensures, i.if-boore_atkinson_takes.true)
+    (c.tell.ensures ∙ ap told c.sigma.ensures.0))
     (λ c κs. search rules)
-    (λ c. let i = c.before in rw (← i.before.boore_atkinson_takes.ensures, i.if1.false) c.none.ensures))
+    (λ c. let i = c.before in rw (← i.boore_atkinson_takes.ensures, i.if-boore_atkinson_takes.false) c.none.ensures))

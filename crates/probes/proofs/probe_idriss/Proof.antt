@@ -13,11 +13,11 @@ probe_idriss_spec =
     tie.close
     (tie.spec
     (λ c κs. search rules)
-    (λ c κs. let t = taken _ _ c.before.idriss_takes.ensures c.if1.true in
+    (λ c κs. let t = taken _ _ c.idriss_takes.ensures c.if-idriss_takes.true in
     median_domain t.row (takes_idriss t.accepted))
     (λ c κs. search rules)
     (λ c. let i = c.before.before in
-    rw (← i.before.idriss_takes.ensures, i.if1.true)
-    (c.tell.ensures ∙ ap told c.before.median.ensures.0))
+    rw (← i.idriss_takes.ensures, i.if-idriss_takes.true)
+    (c.tell.ensures ∙ ap told c.median.ensures.0))
     (λ c κs. search rules)
-    (λ c. let i = c.before in rw (← i.before.idriss_takes.ensures, i.if1.false) c.none.ensures))
+    (λ c. let i = c.before in rw (← i.idriss_takes.ensures, i.if-idriss_takes.false) c.none.ensures))

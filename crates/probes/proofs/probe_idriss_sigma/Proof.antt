@@ -12,7 +12,7 @@ probe_idriss_sigma_spec =
     (tie.spec
     (λ c κs. search rules) (λ c κs. search rules) (λ c κs. c.sigma.ensures.1.small)
     (λ c. let i = c.before.before in
-    rw (← i.before.idriss_takes.ensures, i.if1.true)
-    (c.tell.ensures ∙ ap told c.before.sigma.ensures.0))
+    rw (← i.idriss_takes.ensures, i.if-idriss_takes.true)
+    (c.tell.ensures ∙ ap told c.sigma.ensures.0))
     (λ c κs. search rules)
-    (λ c. let i = c.before in rw (← i.before.idriss_takes.ensures, i.if1.false) c.none.ensures))
+    (λ c. let i = c.before in rw (← i.idriss_takes.ensures, i.if-idriss_takes.false) c.none.ensures))

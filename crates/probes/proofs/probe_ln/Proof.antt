@@ -11,11 +11,11 @@ unfolding probed_ln
 probe_ln_spec =
     tie.close
     (tie.spec
-    (λ c. simp (eq-eqb _ _ c.if1.true))
-    (λ c. simp (ne_eqb _ _ c.before.if1.false, lt-ltb _ _ c.if2.true))
+    (λ c. simp (eq-eqb _ _ c.if-b-eq0.true))
+    (λ c. simp (ne_eqb _ _ c.if-b-eq0.false, lt-ltb _ _ c.if-a-b.true))
     (λ c.
-    simp (ne_eqb _ _ c.before.before.if1.false, le-ltb _ _ c.before.if2.false, le-leb _ _ c.if3.true))
+    simp (ne_eqb _ _ c.if-b-eq0.false, le-ltb _ _ c.if-a-b.false, le-leb _ _ c.if-a-ge536870912.true))
     (λ c κs. search rules)
     (λ c. let t = c.before in
-    simp (ne_eqb _ _ t.before.before.if1.false, le-ltb _ _ t.before.if2.false, lt-leb _ _ t.if3.false)
-    (rw c.ln.ensures.0 refl)))
+    simp (ne_eqb _ _ t.if-b-eq0.false, le-ltb _ _ t.if-a-b.false, lt-leb _ _ t.if-a-ge536870912.false)
+    (rw c.ln-e.ensures.0 refl)))

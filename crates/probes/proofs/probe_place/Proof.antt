@@ -12,7 +12,7 @@ probe_place_spec =
     tie.close
     (tie.spec
     (λ c κs. search rules) (λ c κs. search rules)
-    (λ c. rw (eq-eqb _ 1 c.before.before.if1.true, c.tell-place.ensures, c.before.idriss-place.ensures))
+    (λ c. rw (eq-eqb _ 1 c.if-model-eq1.true, c.tell_place.ensures, c.idriss_place.ensures))
     (λ c κs. search rules) (λ c κs. search rules)
-    (λ c. rw (ne_eqb _ 1 c.before.before.if1.false)
-    (c.tell-place2.ensures ∙ ap told_place c.before.boore-atkinson-place.ensures)))
+    (λ c. rw (ne_eqb _ 1 c.if-model-eq1.false)
+    (c.tell_place-2.ensures ∙ ap told_place c.boore_atkinson_place.ensures)))

@@ -9,8 +9,8 @@ use Rattle.probes.proofs.probe_rest_byte.Tie as tie
 
 returns : tie.Need-returns
 returns c =
-    let i = c.before.before.before.args.i in
-    c.byte_at.ensures ∙ ap (λ (s : List ℕ). get_or s i 0) c.before.rest.ensures.0
+    let i = c.args.i in
+    c.byte_at.ensures ∙ ap (λ (s : List ℕ). get_or s i 0) c.rest.ensures.0
 
 pub probe_rest_byte_spec : {M : Type 1} → statement M
 probe_rest_byte_spec = tie.close (tie.spec (λ c κs. search rules) (λ c κs. search rules) returns)

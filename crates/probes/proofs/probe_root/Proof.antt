@@ -10,5 +10,5 @@ unfolding probed_root
 probe_root_spec =
     tie.close
     (tie.spec
-    (λ c. simp (le-leb _ _ c.if1.true)) (λ c κs. search rules)
-    (λ c. simp (lt-leb _ _ c.before.if1.false) c.root.ensures.0))
+    (λ c. simp (le-leb _ _ c.if-x-ge536870912.true)) (λ c κs. search rules)
+    (λ c. simp (lt-leb _ _ c.if-x-ge536870912.false) c.root.ensures.0))

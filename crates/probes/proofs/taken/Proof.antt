@@ -12,5 +12,5 @@ unfolding is_taken
 taken_spec =
     tie.close
     (tie.spec
-    (λ c. rw (le-leb _ _ c.if1.true) refl) (λ c κs. search rules)
-    (λ c. rw (lt-leb _ _ c.before.if1.false) (ap (λ r. eqb r 0) c.refusal.ensures)))
+    (λ c. rw (le-leb _ _ c.if-k-ge22.true) refl) (λ c κs. search rules)
+    (λ c. rw (lt-leb _ _ c.if-k-ge22.false) (ap (λ r. eqb r 0) c.refusal.ensures)))

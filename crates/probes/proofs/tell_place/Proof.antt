@@ -9,5 +9,5 @@ tell_place_spec =
     tie.close
     (tie.spec
     (λ c. search rules) (λ c. search rules) (λ c. search rules)
-    (λ c. rw c.before.l.given.1 refl) (λ c. rw c.before.l2.given.1 refl)
-    (λ c. rw c.enum_told.given.1 refl))
+    (λ c. rw c.in-Row.is refl) (λ c. rw c.in-Between.is refl)
+    (λ c. rw c.in-Outside.is refl))

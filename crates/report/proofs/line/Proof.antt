@@ -8,6 +8,6 @@ line_spec =
     tie.close
     (tie.spec
     (λ c. search rules) (λ c κs. search rules) (λ c. search rules) (λ c κs. search rules) (λ c. search rules)
-    (λ c. rw c.before.before.before.before.before.a.given.1 (search rules))
+    (λ c. rw c.in-Enclosed.is (search rules))
     (λ c. search rules)
-    (λ c. rw c.before.before.before.before.before.a2.given.1 (search rules)))
+    (λ c. rw c.in-Refused.is (search rules)))

@@ -8,16 +8,16 @@ use Rattle.report.proofs.put_head.Statement.{statement}
 use Rattle.report.proofs.put_head.Tie as tie
 
 -- after the position there is room for two bytes
-room : (c : tie.After-slice-known2) →
-    let p = c.before.before.put-decimal in
-    (p.result + 2 ≤ length p.new.0) × (p.result + 2 < 2 ^ 64)
-room c = omega (arith, simp length-append at c.before.before.before.before.before.requires, put_length)
+room : (c : tie.After-slice_known-2-1) →
+    let p = c.put_decimal-at in
+    (p.result + 2 ≤ length p.new.out) × (p.result + 2 < 2 ^ 64)
+room c = omega (arith, simp length-append at c.requires, put_length)
 
 pub put_head_spec : {M : Type 1} → statement M
 put_head_spec =
     tie.close
     (tie.spec
-    (λ c κs. omega (arith, simp length-append at c.before.before.requires))
+    (λ c κs. omega (arith, simp length-append at c.requires))
     (λ c. omega (arith, room c))
     (λ c. omega (arith, room c))
     (λ c. simp length-set (omega (arith, room c)))

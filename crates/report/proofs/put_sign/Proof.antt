@@ -18,8 +18,8 @@ put_sign_spec =
     tie.close
     (tie.spec
     (λ c. omega (arith, at_least c.args.minus)) (λ c. search rules)
-    (λ c. simp length-set (omega (arith, rw c.if1.true at c.before.requires)))
+    (λ c. simp length-set (omega (arith, rw c.if-minus.true at c.requires)))
     (λ c. search rules) (λ c. search rules)
-    (λ c. rw c.if1.true (search put_two))
+    (λ c. rw c.if-minus.true (search put_two))
     (λ c. search rules) (λ c. search rules)
-    (λ c. rw c.if1.false (search put_byte)))
+    (λ c. rw c.if-minus.false (search put_byte)))

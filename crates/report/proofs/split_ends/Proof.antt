@@ -9,12 +9,12 @@ use Rattle.report.proofs.split_ends.Tie as tie
 returns : tie.Need-returns
 returns c =
     let low = c.before.before in
-    let e = low.before.before.args.e in
+    let e = low.args.e in
     rw (
       low.split.ensures,
-      c.split2.ensures,
-      to_z-of_z w64 e.low (record { sfits = low.before.struct_told.given.0.1 }),
-      to_z-of_z w64 e.high (record { sfits = c.before.struct-told2.given.1.0.1 }),
+      c.split-2.ensures,
+      to_z-of_z w64 e.low (record { sfits = low.struct_told-1.given.0.1 }),
+      to_z-of_z w64 e.high (record { sfits = c.struct_told-2-1.given.1.0.1 }),
     ) refl
 
 pub split_ends_spec : {M : Type 1} → statement M

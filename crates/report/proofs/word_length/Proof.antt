@@ -9,6 +9,6 @@ word_length_spec =
     tie.close
     (tie.spec
     (λ c κs. search rules) (λ c. search rules)
-    (λ c. record { is = rw c.if1.true (omega arith); few = omega arith })
+    (λ c. record { is = rw c.if-w.true (omega arith); few = omega arith })
     (λ c. search rules)
-    (λ c. record { is = rw c.if1.false (omega arith); few = omega arith }))
+    (λ c. record { is = rw c.if-w.false (omega arith); few = omega arith }))

@@ -9,13 +9,13 @@ use Rattle.report_theory.proofs.LineLaws.{too_short, written}
 use Rattle.report_end.proofs.last_line.Statement.{statement}
 use Rattle.report_end.proofs.last_line.Tie as tie
 
-returns : tie.Need-returns-2
+returns : tie.Need-returns
 unfolding last_line_of
 returns c =
     let q = c.before.before in
-    let bytes = q.before.before.before.before.put-word-end.ensures in
+    let bytes = q.put_word_end.ensures in
     let word : Put 0 end_bytes _ 4 _ = record { place = refl; bytes = bytes } in
-    written _ _ refl (put_then word q.put-decimal.ensures) (omega arith) (omega arith)
+    written _ _ refl (put_then word q.put_decimal.ensures) (omega arith) (omega arith)
 
 pub last_line_spec : {M : Type 1} → statement M
 unfolding last_line_of
@@ -23,5 +23,5 @@ last_line_spec =
     tie.close
     (tie.spec
     (λ c κs. search rules) (λ c. search rules)
-    (λ c. too_short _ _ c.if1.true (omega arith))
+    (λ c. too_short _ _ c.if-out-n.true (omega arith))
     (λ c κs. search rules) (λ c κs. search rules) (λ c. search rules) returns)
