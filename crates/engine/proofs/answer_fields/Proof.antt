@@ -13,10 +13,10 @@ answer_fields_spec =
     tie.close
     (tie.spec
     (λ c κs. search rules) (λ c. search rules)
-    (λ c κs. (passed _ (sym c.before.before.before.check.ensures ∙ c.before.basis.given.1)).placed)
+    (λ c κs. (passed _ (sym c.check.ensures ∙ c.in-Accepted.is)).placed)
     (λ c. search rules)
-    (λ c. let g = c.before.before in
-    let checked = sym g.before.before.check.ensures ∙ g.basis.given.1 in
+    (λ c. let g = c.before in
+    let checked = sym g.check.ensures ∙ g.in-Accepted.is in
     answers _ _ (λ e. e) (fields_enclosed _ checked c.on_basis.ensures))
     (λ c. answers _ _ (λ e. e)
-    (fields_refused _ (sym c.before.before.before.check.ensures ∙ c.before.k.given.1))))
+    (fields_refused _ (sym c.check.ensures ∙ c.in-Refused.is))))

@@ -10,10 +10,10 @@ use Rattle.engine_theory.proofs.Assembled.{on_basis}
 use Rattle.engine.proofs.answer_fields_in_doubles.Statement.{statement}
 use Rattle.engine.proofs.answer_fields_in_doubles.Tie as tie
 
-small : tie.Need-as-doubles-requires
+small : tie.Need-as_doubles-requires
 small c κs =
-    let g = c.before.before in
-    let p = passed _ (sym g.before.before.check.ensures ∙ g.basis.given.1) in
+    let g = c.before in
+    let p = passed _ (sym g.check.ensures ∙ g.in-Accepted.is) in
     rw (c.on_basis.ensures, on_basis _ _ p.basis) (sound _ p.accepted).small
 
 pub answer_fields_in_doubles_spec : {M : Type 1} → statement M
@@ -22,11 +22,11 @@ answer_fields_in_doubles_spec =
     tie.close
     (tie.spec
     (λ c κs. search rules) (λ c. search rules)
-    (λ c κs. (passed _ (sym c.before.before.before.check.ensures ∙ c.before.basis.given.1)).placed)
+    (λ c κs. (passed _ (sym c.check.ensures ∙ c.in-Accepted.is)).placed)
     small (λ c. search rules)
-    (λ c. let g = c.before.before.before in
-    let checked = sym g.before.before.check.ensures ∙ g.basis.given.1 in
+    (λ c. let g = c.before.before in
+    let checked = sym g.check.ensures ∙ g.in-Accepted.is in
     doubles_answers _ _ (λ e. e)
-    (enclosed_in_doubles c.as-doubles.ensures (fields_enclosed _ checked c.before.on_basis.ensures)))
+    (enclosed_in_doubles c.as_doubles.ensures (fields_enclosed _ checked c.on_basis.ensures)))
     (λ c. doubles_answers _ _ (λ e. e)
-    (refused_in_doubles (fields_refused _ (sym c.before.before.before.check.ensures ∙ c.before.k.given.1)))))
+    (refused_in_doubles (fields_refused _ (sym c.check.ensures ∙ c.in-Refused.is)))))

@@ -12,11 +12,11 @@ answer_next_spec =
     (tie.spec
     (λ c κs. search rules) (λ c. search rules)
     (λ c κs.
-    let read = c.before.before.before.read-with-basis.ensures.0 in
-    (based_read _ (sym read ∙ c.before.s.given.1)).rests.placed)
+    let read = c.read_with_basis.ensures.0 in
+    (based_read _ (sym read ∙ c.in-Read.is)).rests.placed)
     (λ c. search rules)
-    (λ c. let g = c.before.before in
-    let read = sym g.before.before.read-with-basis.ensures.0 ∙ g.s.given.1 in
+    (λ c. let g = c.before in
+    let read = sym g.read_with_basis.ensures.0 ∙ g.in-Read.is in
     next_promised _ (next_enclosed _ read c.on_basis.ensures))
     (λ c. next_promised _
-    (next_refused _ (sym c.before.before.before.read-with-basis.ensures.0 ∙ c.before.k.given.1))))
+    (next_refused _ (sym c.read_with_basis.ensures.0 ∙ c.in-Refused.is))))

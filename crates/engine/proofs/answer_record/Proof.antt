@@ -14,6 +14,6 @@ answer_record_spec =
     (tie.spec
     (λ c κs. search rules) (λ c. search rules) (λ c. search rules)
     (λ c. answers _ _ (read_accepted _)
-    (next_answer _ (sym c.before.before.before.answer-next.ensures.0 ∙ c.before.e.given.1)))
+    (next_answer _ (sym c.answer_next.ensures.0 ∙ c.in-Enclosed.is)))
     (λ c. answers _ _ (read_accepted _)
-    (next_answer _ (sym c.before.before.before.answer-next.ensures.0 ∙ c.before.k.given.1))))
+    (next_answer _ (sym c.answer_next.ensures.0 ∙ c.in-Refused.is))))

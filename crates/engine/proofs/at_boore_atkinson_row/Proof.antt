@@ -10,7 +10,7 @@ at_boore_atkinson_row_spec =
     tie.close
     (tie.spec
     (λ c κs. rw c.requires.1 (boore_atkinson_moderate c.requires.0))
-    (λ c κs. let r = placed_at_row c.before.requires.0 in rw r.1 (boore_atkinson_row_lem _ r.0))
+    (λ c κs. let r = placed_at_row c.requires.0 in rw r.1 (boore_atkinson_row_lem _ r.0))
     (λ c.
     let k = c.before.before in
-    rw (c.sigma.ensures.0, c.before.ends.ensures, k.requires.1) (boore_atkinson_at_row k.requires.0)))
+    rw (c.sigma.ensures.0, c.ends.ensures, k.requires.1) (boore_atkinson_at_row k.requires.0)))

@@ -14,26 +14,26 @@ placed : (c : tie.Start) →
     PlacedOnStep boore_atkinson boore_atkinson_row (0 ∷ boore_atkinson.periods) c.args.period c.args.k
 placed c = placed_on_step boore_atkinson_tabled c.requires.0
 
-step : (c : tie.After-step) → c.step.result ≡ step_around boore_atkinson c.before.before.args.period
-step c = let n = c.before in step_is (placed n.before) n.boore-atkinson-neighbours.ensures c.step.ensures
+step : (c : tie.After-step-step) → c.step-step.result ≡ step_around boore_atkinson c.args.period
+step c = let n = c.before in step_is (placed n.before) n.boore_atkinson_neighbours.ensures c.step-step.ensures
 
 pub between_boore_atkinson_spec : {M : Type 1} → statement M
 between_boore_atkinson_spec =
     tie.close
     (tie.spec
     (λ c κs. let t = placed c in rw t.row_is (not_first t.on_step.rows, t.on_step.last))
-    (λ c κs. step_domain (placed c.before) c.boore-atkinson-neighbours.ensures)
+    (λ c κs. step_domain (placed c.before) c.boore_atkinson_neighbours.ensures)
     (λ c κs. let t = placed c.before.before in rw t.row_is t.on_step.last)
     (λ c κs.
-    let p = c.before.before.before.requires in
-    rw (step c.before, p.1) (boore_atkinson_interpolates p.0).median)
+    let s = c.before.before.before.before.before in
+    let p = c.requires in
+    rw (step s, p.1) (boore_atkinson_interpolates p.0).median)
     (λ c κs.
-    let g = c.before in
-    let p = g.before.before.before.requires in
-    rw (step g.before, g.sigma-rows.ensures) (boore_atkinson_interpolates p.0).sigma)
+    let s = c.before.before.before.before.before.before.before.before.before.before in
+    let p = c.requires in
+    rw (step s, c.sigma_rows-sigmas.ensures) (boore_atkinson_interpolates p.0).sigma)
     (λ c.
-    let m = c.before in
-    let g = m.before in
-    let p = g.before.before.before.requires in
-    rw (c.interpolated2.ensures, m.interpolated.ensures, step g.before, g.sigma-rows.ensures, p.1)
+    let s = c.before.before.before.before.before.before.before.before.before.before.before in
+    let p = c.requires in
+    rw (c.interpolated-2.ensures, c.interpolated.ensures, step s, c.sigma_rows-sigmas.ensures, p.1)
     (boore_atkinson_between_rows p.0)))

@@ -10,5 +10,5 @@ last_row_spec =
     tie.close
     (tie.spec
     (λ c. search rules) (λ c. search rules)
-    (λ c. let h = rw c.before.place2.given.1 at c.before.before.before.requires in omega (arith, h))
-    (λ c. rw c.before.place.given.1 refl) (λ c. rw c.before.place2.given.1 refl))
+    (λ c. let h = rw c.in-Between.is at c.requires in omega (arith, h))
+    (λ c. rw c.in-Row.is refl) (λ c. rw c.in-Between.is refl))

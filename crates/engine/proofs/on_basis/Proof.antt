@@ -8,8 +8,8 @@ on_basis_spec =
     tie.close
     (tie.spec
     (λ c. search rules)
-    (λ c κs. rw c.before.basis.given.1 at c.before.before.before.requires)
+    (λ c κs. rw c.in-Idriss.is at c.requires)
     (λ c. search rules)
-    (λ c κs. rw c.before.basis2.given.1 at c.before.before.before.requires)
-    (λ c. rw c.before.before.basis.given.1 c.by_idriss_lem.ensures)
-    (λ c. rw c.before.before.basis2.given.1 c.by_boore_atkinson.ensures))
+    (λ c κs. rw c.in-BooreAtkinson.is at c.requires)
+    (λ c. rw c.in-Idriss.is c.by_idriss.ensures)
+    (λ c. rw c.in-BooreAtkinson.is c.by_boore_atkinson.ensures))
