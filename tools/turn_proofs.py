@@ -60,6 +60,11 @@ class Function:
             if node[0] == "arm":
                 last = [q for q in self.node if self.node[q] == node][-1]
                 self.new[place] = self.new[last]
+        self.args = {}
+        for old, new in f["args"]:
+            m = re.match(r"\.args \.([\w-]+)$", old)
+            if m:
+                self.args[m.group(1)] = new.split(".")[-1]
         self.loops = [(old, new) for (old, new), _ in f["loops"]]
 
     def hops(self, start, goal):
@@ -91,7 +96,7 @@ class Function:
                 tail = rest[1 + len(best[0]) :]
                 return ["." + p for p in best[1].split(".") + tail], None
         if rest[0] == "args" and len(rest) > 1:
-            rest = [rest[0], rest[1].replace("-", "_")] + rest[2:]
+            rest = [rest[0], self.args.get(rest[1], rest[1].replace("-", "_"))] + rest[2:]
         return ["." + p for p in rest], None
 
     def body(self, text, places):

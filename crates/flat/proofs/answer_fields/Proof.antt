@@ -15,5 +15,5 @@ answer_fields_spec =
     tie.close
     (tie.spec
     (λ c κs. search rules)
-    (λ c κs. let s = c.before.args.s in rw c.answer-fields.ensures.0 (small s (refusal_of s) (λ e. e)))
-    (λ c. flat_answers _ _ (λ e. e) (c.flat.ensures ∙ ap told c.before.answer-fields.ensures.0)))
+    (λ c κs. let s = c.args.s in rw c.answer_fields.ensures.0 (small s (refusal_of s) (λ e. e)))
+    (λ c. flat_answers _ _ (λ e. e) (c.flat.ensures ∙ ap told c.answer_fields.ensures.0)))

@@ -11,7 +11,7 @@ use Rattle.flat.proofs.answer_record.Tie as tie
 
 all_small : tie.Need-flat-requires
 unfolding record_answer_of
-all_small c κs = rw c.answer-record.ensures.0 (small _ _ (read_accepted c.before.before.args.bytes.now))
+all_small c κs = rw c.answer_record.ensures.0 (small _ _ (read_accepted c.args.bytes.now))
 
 pub answer_record_spec : {M : Type 1} → statement M
 unfolding record_answer_of
@@ -19,4 +19,4 @@ answer_record_spec =
     tie.close
     (tie.spec
     (λ c κs. search rules) all_small
-    (λ c. flat_answers _ _ (read_accepted _) (c.flat.ensures ∙ ap told c.before.answer-record.ensures.0)))
+    (λ c. flat_answers _ _ (read_accepted _) (c.flat.ensures ∙ ap told c.answer_record.ensures.0)))

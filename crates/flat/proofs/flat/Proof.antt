@@ -24,17 +24,17 @@ is_told : (e : Enclosure) {a b c d : ℤ} → a ≡ e.median.low → b ≡ e.med
     ≡ told (A.Enclosed e)
 is_told e p q r s = rw (p, q, r, s) refl
 
-enclosed : tie.Need-returns
+enclosed : tie.Need-returns-in-Enclosed
 enclosed c =
-    let a = c.before.before in
-    let e = a.a.given.0.0 in
-    let h = subst SmallAnswer a.a.given.1 a.before.before.requires in
-    rw a.a.given.1
+    let a = c.before in
+    let e = a.in-Enclosed.e in
+    let h = subst SmallAnswer a.in-Enclosed.is a.requires in
+    rw a.in-Enclosed.is
     (is_told e (end e.median.low h.median.low) (end e.median.high h.median.high)
     (end e.sigma.low h.sigma.low) (end e.sigma.high h.sigma.high))
 
-refused : tie.Need-returns-2
-refused c = rw c.before.a2.given.1 refl
+refused : tie.Need-returns-in-Refused
+refused c = rw c.in-Refused.is refl
 
 pub flat_spec : {M : Type 1} → statement M
 flat_spec = tie.close (tie.spec (λ c. search rules) (λ c. search rules) enclosed refused)

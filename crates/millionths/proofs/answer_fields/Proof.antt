@@ -14,9 +14,9 @@ answer_fields_spec =
     (tie.spec (λ c κs. search rules) (λ c. search rules) (λ c κs. search rules) (λ c. search rules)
     (λ c.
     let e = c.before.before in
-    let answer = sym e.e.given.1 ∙ e.before.before.answer-fields.ensures.0 in
+    let answer = sym e.in-Enclosed.is ∙ e.answer_fields.ensures.0 in
     answers _ (ap M.Between c.from_ends.ensures.0 ∙ ap in_millionths answer))
     (λ c.
-    let k = c.before in
-    let answer = sym k.k.given.1 ∙ k.before.before.answer-fields.ensures.0 in
+    let k = c in
+    let answer = sym k.in-Refused.is ∙ k.answer_fields.ensures.0 in
     answers _ (ap in_millionths answer)))

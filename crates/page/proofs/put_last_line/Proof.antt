@@ -8,13 +8,13 @@ use Rattle.page.proofs.put_last_line.Statement.{statement}
 use Rattle.page.proofs.put_last_line.Tie as tie
 
 -- the line is put, and there is a place after it
-known : (c : tie.After-slice-known2) →
+known : (c : tie.After-slice_known-2-1) →
     let l = c.before.before in
-    let a = l.before.before.before.args in
-    Placed (last_line_of a.count) a.out.now a.at l.last_line.result 1 l.last_line.new.out
+    let a = l.args in
+    Placed (last_line_of a.count) a.out.now a.at l.last_line-n.result 1 l.last_line-n.new.out
 known c =
     let l = c.before.before in
-    placed _ _ _ 1 (omega (arith, last_line_most l.before.before.before.args.count)) l.last_line.ensures
+    placed _ _ _ 1 (omega (arith, last_line_most l.args.count)) l.last_line-n.ensures
 
 pub put_last_line_spec : {M : Type 1} → statement M
 put_last_line_spec =

@@ -8,14 +8,14 @@ use Rattle.page.proofs.put_line.Statement.{statement}
 use Rattle.page.proofs.put_line.Tie as tie
 
 -- the line is put, and there is a place after it
-known : (c : tie.After-slice-known2) →
+known : (c : tie.After-slice_known-2-1) →
     let l = c.before.before in
-    let a = l.before.before.before.args in
-    Placed (line_of a.position a.a) a.out.now a.at l.line.result 1 l.line.new.out
+    let a = l.args in
+    Placed (line_of a.position a.a) a.out.now a.at l.line-n.result 1 l.line-n.new.out
 known c =
     let l = c.before.before in
-    let a = l.before.before.before.args in
-    placed _ _ _ 1 (omega (arith, line_most_lem a.position a.a)) l.line.ensures
+    let a = l.args in
+    placed _ _ _ 1 (omega (arith, line_most_lem a.position a.a)) l.line-n.ensures
 
 pub put_line_spec : {M : Type 1} → statement M
 put_line_spec =

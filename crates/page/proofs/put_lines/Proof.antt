@@ -11,42 +11,42 @@ use Rattle.enclosures_theory.proofs.Steps.{start, taken, read_step, refused_step
 use Rattle.page.proofs.put_lines.Statement.{statement}
 use Rattle.page.proofs.put_lines.Tie as tie
 
-abbrev invariant_loop : tie.invariant_loop
+abbrev invariant_loop : tie.invariant-loop-at
 invariant_loop s out₀ start at₀ count₀ next₀ out at count next =
     Going (take start out₀) s out at count next × (length out ≡ length out₀)
 
-abbrev decreases_loop : tie.decreases_loop
+abbrev decreases_loop : tie.decreases-loop-at
 decreases_loop s out₀ start at₀ count₀ next₀ out at count next = length s - at
 
 -- there is room for a line more, as the front is as long as its place says
-line_fits : (k : tie.In-loop invariant_loop decreases_loop) → let l = k.before.loop in l.next + line_most ≤ length l.out
+line_fits : (k : tie.In-loop-at invariant_loop decreases_loop) → let l = k.loop-at in l.next + line_most ≤ length l.out
 line_fits k =
-    let l = k.before.loop in
+    let l = k.loop-at in
     let s = k.before.before.before.before in
     let front = length-take-le s.args.start s.args.out.now (omega arith) in
-    omega (arith, has_room l.invariant.0 k.loop-test.true s.requires.1, front)
+    omega (arith, has_room l.invariant.0 k.loop-at-test.true s.requires.1, front)
 
 -- what is read takes some of the bytes that are left
-left : (c : tie.After-slice-known2 invariant_loop decreases_loop) →
-    let r = c.before.before.before.before.before in
-    let l = r.before.before.before.before.before in
-    (6 ≤ r.r.given.0.1.0) × (r.r.given.0.1.0 ≤ length l.before.before.before.args.s.now - l.loop.at)
+left : (c : tie.After-slice_known-in-Enclosed-1 invariant_loop decreases_loop) →
+    let r = c.before.before.before.before in
+    let l = r.before.before.before.before in
+    (6 ≤ r.in-Enclosed.n) × (r.in-Enclosed.n ≤ length l.args.s.now - l.loop-at.at)
 left c =
-    let r = c.before.before.before.before.before in
-    let e = sym r.before.before.answer-next.ensures.0 ∙ r.r.given.1 in
-    let l = r.before.before.before.before.before in
-    taken l.before.before.before.args.s.now l.loop.at e
+    let r = c.before.before.before.before in
+    let e = sym r.answer_next-r.ensures.0 ∙ r.in-Enclosed.is in
+    let l = r.before.before.before.before in
+    taken l.args.s.now l.loop-at.at e
 
-loop_again : tie.Need-loop-preserved invariant_loop decreases_loop
+loop_again : tie.Need-loop-at-preserved invariant_loop decreases_loop
 loop_again c =
-    let r = c.before.before.before.before.before in
-    let e = sym r.before.before.answer-next.ensures.0 ∙ r.r.given.1 in
+    let r = c.before.before.before.before in
+    let e = sym r.answer_next-r.ensures.0 ∙ r.in-Enclosed.is in
     (search (rules, read_step), omega arith)
 
-returns : tie.Need-returns invariant_loop decreases_loop
+returns : tie.Need-returns-in-Refused invariant_loop decreases_loop
 returns c =
-    let r = c.before.before.before.before.before in
-    let e = sym r.before.before.answer-next.ensures.0 ∙ r.r2.given.1 in
+    let r = c.before.before.before.before in
+    let e = sym r.answer_next-r.ensures.0 ∙ r.in-Refused.is in
     search (rules, refused_step)
 
 pub put_lines_spec : {M : Type 1} → statement M
@@ -57,7 +57,7 @@ put_lines_spec =
     (λ c. (start _ _ _ (omega arith), refl))
     (λ c. search rules) (λ c. search rules) (λ c. search rules) (λ c. search rules) (λ c κs. search rules)
     (λ c. search rules)
-    (λ c κs. line_fits c.before.before.before.before.before.before)
+    (λ c κs. line_fits c.before.before.before.before)
     (λ c. omega (arith, left c)) (λ c. omega (arith, left c)) loop_again (λ c. search rules)
-    (λ c κs. line_fits c.before.before.before.before.before.before)
+    (λ c κs. line_fits c.before.before.before.before)
     (λ c. search rules) returns (λ c. search rules) (λ c. search (rules, end_step)))
