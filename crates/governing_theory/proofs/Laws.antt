@@ -29,17 +29,18 @@ use Rattle.governing_theory.specs.declared.FlatScreening.{FlatScreening}
 use Rattle.governing_theory.specs.declared.Greatest.{Greatest}
 use Rattle.governing_theory.specs.Promise.{Accepted, low_at, high_at, ends_at, GreatestAt, Named, Marked}
 use Rattle.governing_theory.specs.Promise.{GreatestLow, ToMark, Outdone, Governs, GoverningPromise}
-use Rattle.governing_theory.specs.Evaluation.{noGreatest, greatest_of, mark_of, marks_of, no_screening}
+use Rattle.governing_theory.specs.Evaluation.{greatest_high, greatest_low, mark_of, marks_of, no_screening}
 use Rattle.governing_theory.specs.Evaluation.{screening_of, governing_of}
 use Rattle.governing_theory.proofs.Less.{less}
 use Rattle.governing_theory.proofs.Leading.{Led, led}
-use Rattle.governing_theory.proofs.Screening.{highs, lows, over-is, none_is, some_is}
+use Rattle.governing_theory.proofs.Screening.{over_is, none_is, some_is}
 use Rattle.governing_theory.proofs.Marks.{mark_before, mark_after}
 
 -- ---- a mark by a test
 
 one_when : (b : Bool) → T b → (1 when b) ≡ 1
 one_when true t = refl
+one_when false t = elim t [ ]
 
 when_one : (b : Bool) → (1 when b) ≡ 1 → T b
 when_one true e = tt
@@ -184,10 +185,10 @@ module _ (count : ℕ) (xs : List Scenario) (sheet : FlatSheet) (p : SheetPromis
 
   -- ---- as it is computed
 
-  by_places : Scenario → count ≤ sheet_most → Led sheet.numbers sheet.median_high sheet.count (highs sheet) →
-      Led sheet.numbers sheet.median_low sheet.count (lows sheet) → Governs count xs sheet (screening_of sheet)
+  by_places : Scenario → count ≤ sheet_most → Led sheet.numbers sheet.median_high sheet.count (greatest_high sheet) →
+      Led sheet.numbers sheet.median_low sheet.count (greatest_low sheet) → Governs count xs sheet (screening_of sheet)
   by_places d within (inl (none_yet, none)) l =
-      rw (none_is sheet (p.within within).0 (ap (λ b. b.position) none_yet))
+      rw (none_is sheet (p.within within).0 none_yet)
       (refused 15 (λ z. omega arith) none (λ h. absurd (omega arith)) (λ _. refl))
   by_places d within (inr (k, h)) (inl (none_yet, none)) = absurd (none k h.accepted)
   by_places d within (inr (k, h)) (inr (q, l)) =
@@ -200,7 +201,7 @@ module _ (count : ℕ) (xs : List Scenario) (sheet : FlatSheet) (p : SheetPromis
   screened d = elim (dec_lt sheet_most count) [
     | yes over ↦
         let e = p.over over in
-        rw (over-is sheet (λ z. omega (arith, e.0)))
+        rw (over_is sheet (λ z. omega (arith, e.0)))
         (refused sheet.number (λ z. omega (arith, e.0)) (λ i a. omega (arith, e.1, a.0)) (λ _. e.0)
         (λ h. absurd (omega arith)))
     | no within ↦ by_places d (omega arith) (led _ _ _) (led _ _ _)

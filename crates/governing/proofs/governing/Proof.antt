@@ -15,7 +15,7 @@ few_places c κs = rw c.answer-sheet.ensures.0 (few c.before.args.count)
 returns : tie.Need-returns
 unfolding governing_of
 returns c =
-    governing_promised _ _ c.before.before.well-formed.1.0.1.0.1
+    governing_promised _ _ c.before.before.well_formed.1.0.1.0.1
     (c.screen.ensures ∙ ap screening_of c.before.answer-sheet.ensures.0)
 
 pub governing_spec : {M : Type 1} → statement M

@@ -16,7 +16,7 @@ returns c =
     let told = c.before.before.before in
     let count = told.args.count in
     let places = told.args.scenarios.places in
-    let good = told.well-formed.1.0.1.1.0.1.0.1 in
+    let good = told.well_formed.1.0.1.1.0.1.0.1 in
     let long : length places ≡ sheet_most = sym (length-map places the_type.to) ∙ good in
     governing_promised _ _ (length-map places scenario_from ∙ long)
     (c.governing.ensures.0
