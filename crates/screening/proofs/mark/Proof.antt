@@ -9,10 +9,10 @@ pub mark_spec : {M : Type 1} → statement M
 mark_spec =
     tie.close
     (tie.spec
-    (λ c. rw (ne_eqb _ 0 c.if1.true) refl)
+    (λ c. rw (ne_eqb _ 0 c.if-number-ne0.true) refl)
     (λ c.
-    let f = c.before.before.ranges in
-    rw (compared f.low f.high c.if2.true, eq-eqb _ 0 c.before.if1.false) refl)
+    let f = c.ranges in
+    rw (compared f.low f.high c.if-low-high.true, eq-eqb _ 0 c.if-number-ne0.false) refl)
     (λ c.
-    let f = c.before.before.ranges in
-    rw (compared f.low f.high c.if2.false, eq-eqb _ 0 c.before.if1.false) refl))
+    let f = c.ranges in
+    rw (compared f.low f.high c.if-low-high.false, eq-eqb _ 0 c.if-number-ne0.false) refl))

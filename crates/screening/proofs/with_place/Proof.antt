@@ -15,7 +15,7 @@ with_place_spec =
     (λ c.
     let s = c.before.before in
     let end = to_z-of_z w64 s.args.end s.ranges.end in
-    rw (rw end at (sym c.before.leads.ensures ∙ c.if1.true), end, add-one) refl)
+    rw (rw end at (sym c.leads.ensures ∙ c.if-leads.true), end, add-one) refl)
     (λ c.
     let s = c.before.before in
-    rw (rw (to_z-of_z w64 s.args.end s.ranges.end) at (sym c.before.leads.ensures ∙ c.if1.false)) refl))
+    rw (rw (to_z-of_z w64 s.args.end s.ranges.end) at (sym c.leads.ensures ∙ c.if-leads.false)) refl))
