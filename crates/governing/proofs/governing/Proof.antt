@@ -10,13 +10,13 @@ use Rattle.governing.proofs.governing.Tie as tie
 
 few_places : tie.Need-screen-requires
 unfolding sheet_of
-few_places c κs = rw c.answer-sheet.ensures.0 (few c.before.args.count)
+few_places c κs = rw c.answer_sheet.ensures.0 (few c.args.count)
 
 returns : tie.Need-returns
 unfolding governing_of
 returns c =
-    governing_promised _ _ c.before.before.well_formed.1.0.1.0.1
-    (c.screen.ensures ∙ ap screening_of c.before.answer-sheet.ensures.0)
+    governing_promised _ _ c.well_formed.1.0.1.0.1
+    (c.screen.ensures ∙ ap screening_of c.answer_sheet.ensures.0)
 
 pub governing_spec : {M : Type 1} → statement M
 governing_spec = tie.close (tie.spec (λ c κs. search rules) few_places returns)

@@ -7,4 +7,4 @@ pub fusnoch_answer_fields_spec : {M : Type 1} → statement M
 fusnoch_answer_fields_spec =
     tie.close
     (tie.spec
-    (λ c κs. search rules) (λ c κs. search rules) (λ c. rw (← c.before.scenario-from.ensures) (search rules)))
+    (λ c κs. search rules) (λ c κs. search rules) (λ c. rw (← c.scenario_from.ensures) (search rules)))

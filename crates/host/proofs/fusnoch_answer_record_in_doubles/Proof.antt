@@ -15,4 +15,4 @@ fusnoch_answer_record_in_doubles_spec =
     (tie.spec
     (λ c κs. search rules) (λ c κs. search rules)
     (λ c. doubles_answers _ _ (read_accepted _)
-    (c.tell-doubles.ensures ∙ ap told_doubles c.before.answer-record-in-doubles.ensures.0)))
+    (c.tell_doubles.ensures ∙ ap told_doubles c.answer_record_in_doubles.ensures.0)))

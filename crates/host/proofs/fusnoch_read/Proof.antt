@@ -12,7 +12,7 @@ fusnoch_read_spec =
     (tie.spec
     (λ c κs. search rules) (λ c. search rules) (λ c κs. search rules) (λ c. search rules)
     (λ c.
-    let told = c.before.before in
-    reads _ (rw c.fields-of.ensures
-    (ap told_reading (sym told.x.given.1 ∙ told.before.before.read.ensures.0))))
-    (λ c. reads _ (ap told_reading (sym c.before.number.given.1 ∙ c.before.before.before.read.ensures.0))))
+    let told = c.before in
+    reads _ (rw c.fields_of.ensures
+    (ap told_reading (sym told.in-Read.is ∙ told.read.ensures.0))))
+    (λ c. reads _ (ap told_reading (sym c.in-Refused.is ∙ c.read.ensures.0))))

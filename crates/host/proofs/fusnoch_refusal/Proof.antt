@@ -9,4 +9,4 @@ fusnoch_refusal_spec =
     tie.close
     (tie.spec
     (λ c κs. search rules) (λ c κs. search rules)
-    (λ c. rw (c.refusal.ensures, c.before.scenario-from.ensures) refl))
+    (λ c. rw (c.refusal.ensures, c.scenario_from.ensures) refl))

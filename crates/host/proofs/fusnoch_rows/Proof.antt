@@ -12,6 +12,6 @@ fusnoch_rows_spec =
     (tie.spec
     (λ c κs. search rules) (λ c. search rules) (λ c. search rules)
     (λ c. rows_told _ _
-    (ap told_periods (sym c.before.lower.given.1 ∙ c.before.before.before.row-periods.ensures)))
+    (ap told_periods (sym c.in-Rows.is ∙ c.row_periods.ensures)))
     (λ c. rows_told _ _
-    (ap told_periods (sym c.before.number.given.1 ∙ c.before.before.before.row-periods.ensures))))
+    (ap told_periods (sym c.in-Refused.is ∙ c.row_periods.ensures))))

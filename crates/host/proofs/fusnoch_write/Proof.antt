@@ -11,10 +11,10 @@ fusnoch_write_spec =
     tie.close
     (tie.spec
     (λ c κs. search rules) (λ c κs. search rules) (λ c. search rules) (λ c. search rules) (λ c. search rules)
-    (λ c. let w = c.before.before.before.before.before in
-    rw (← w.before.before.scenario-from.ensures)
-    (writes _ _ (ap told_writing (sym c.before.length.given.1 ∙ w.write.ensures.0)) w.write.ensures.1.1))
+    (λ c. let w = c.before.before.before in
+    rw (← w.scenario_from.ensures)
+    (writes _ _ (ap told_writing (sym c.in-Length.is ∙ w.write.ensures.0)) w.write.ensures.1.1))
     (λ c. search rules)
-    (λ c. let w = c.before.before.before.before.before in
-    rw (← w.before.before.scenario-from.ensures)
-    (writes _ _ (ap told_writing (sym c.before.number.given.1 ∙ w.write.ensures.0)) w.write.ensures.1.1)))
+    (λ c. let w = c.before.before.before in
+    rw (← w.scenario_from.ensures)
+    (writes _ _ (ap told_writing (sym c.in-Refused.is ∙ w.write.ensures.0)) w.write.ensures.1.1)))

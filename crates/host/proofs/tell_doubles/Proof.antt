@@ -8,5 +8,5 @@ pub tell_doubles_spec : {M : Type 1} → statement M
 tell_doubles_spec =
     tie.close
     (tie.spec
-    (λ c. search rules) (λ c. search rules) (λ c. rw c.before.a.given.1 refl)
-    (λ c. rw c.before.a2.given.1 refl))
+    (λ c. search rules) (λ c. search rules) (λ c. rw c.in-Enclosed.is refl)
+    (λ c. rw c.in-Refused.is refl))
