@@ -7,8 +7,8 @@ ghost use Rattle.enclosures_theory.specs.Transfers.{ReadInto, WrittenOf};
 
 use enclosures_theory::Transfer;
 use error_line::put_error;
-use libc::{STDERR_FILENO, STDIN_FILENO, STDOUT_FILENO};
 use page_output::put_output;
+use std::io::{Read, Write};
 
 const BYTES_TAKEN: usize = 4_096;
 
@@ -17,16 +17,15 @@ const PAGE_MOST: usize = 75_849;
 const ERROR_MOST: usize = 92;
 
 // Reads until the input ends or buf is full.
-fn read_all(buf: &mut [u8]) -> Transfer
+fn read_all<R: Read>(input: &mut R, buf: &mut [u8]) -> Transfer
     ensures { ReadInto (length buf.old) result }
 {
     let mut done: usize = 0;
     while done < buf.len() {
-        let got = libc::read(STDIN_FILENO, &mut buf[done..]);
-        if got < 0 {
-            return Transfer::Failed(done);
-        }
-        let n = got as usize;
+        let n = match input.read(&mut buf[done..]) {
+            Ok(n) => n,
+            Err(_) => return Transfer::Failed(done),
+        };
         if n == 0 {
             return Transfer::Complete(done);
         }
@@ -36,27 +35,30 @@ fn read_all(buf: &mut [u8]) -> Transfer
 }
 
 // Writes all of buf, each time from where the last write stopped.
-fn write_all(fd: i32, buf: &[u8]) -> Transfer
+fn write_all<W: Write>(output: &mut W, buf: &[u8]) -> Transfer
     ensures { WrittenOf (length buf.now) result }
 {
     let mut done: usize = 0;
     while done < buf.len() {
-        let put = libc::write(fd, &buf[done..]);
+        let put = match output.write(&buf[done..]) {
+            Ok(n) => n,
+            Err(_) => return Transfer::Failed(done),
+        };
         if put < 1 {
             return Transfer::Failed(done);
         }
-        done += put as usize;
+        done += put;
     }
     Transfer::Complete(done)
 }
 
-fn main() {
+fn main(rt: HostRuntime) {
     let mut bytes = [0u8; BYTES_TAKEN];
     let mut page = [0u8; PAGE_MOST];
     let mut error = [0u8; ERROR_MOST];
-    let got = read_all(&mut bytes);
+    let got = read_all(&mut rt.stdin(), &mut bytes);
     let n = put_output(got, &bytes, &mut page);
-    let put = write_all(STDOUT_FILENO, &page[..n]);
+    let put = write_all(&mut rt.stdout(), &page[..n]);
     let m = put_error(got, put, n, &mut error);
-    write_all(STDERR_FILENO, &error[..m]);
+    write_all(&mut rt.stderr(), &error[..m]);
 }

@@ -1,0 +1,9 @@
+-- A write that is answered by 1 or more leaves fewer bytes.
+use Rattle.std.proofs.Common.{length, ◌-◌, ◌≤◌}
+use Rattle.enclosures.proofs.write_all.Given as goal
+
+abbrev pub invariant-loop-done : goal.invariant-loop-done
+invariant-loop-done g l = l.done ≤ length l.buf
+
+abbrev pub decreases-loop-done : goal.decreases-loop-done
+decreases-loop-done g l = length l.buf - l.done
