@@ -11,7 +11,7 @@ SHELL := /bin/bash
 CC := gcc
 WARN := -Wall -Wextra -Werror
 PROBE := target/tests/probe
-PROGRAM := target/bin/enclosures
+PROGRAM := crates/enclosures/out/enclosures
 SAMPLE := tests/streams/sample
 LIB := target/lib
 # The hosts' programs, in C, Rust and Python: one answers the tests' questions, one prints a spectrum, one a sheet.
@@ -19,8 +19,9 @@ ASKS := target/hosts/c/ask target/hosts/rust/release/ask hosts/python/ask.py
 SPECTRA := target/hosts/c/spectrum target/hosts/rust/release/examples/spectrum hosts/python/spectrum.py
 SHEETS := target/hosts/c/sheet target/hosts/rust/release/examples/sheet hosts/python/sheet.py
 BENCH := target/bench/bench
-# rt keeps what it has proved in target, so that two of it at a time would disturb each other there.
-ALONE := flock target/tests/lock
+# rt keeps what it has proved in out/ of each crate; one at a time, so that none waits for another within rt.
+LOGS := $(CURDIR)/target/tests
+ALONE := flock $(LOGS)/lock
 
 .PHONY: run test lib examples bench longer definitions outside hosts probe program need need_hosts need_bench need_test
 .PHONY: test_logarithm test_records test_models test_answers test_millionths test_enclosures test_program_failures
@@ -30,11 +31,12 @@ ALONE := flock target/tests/lock
 run: program
 	$(PROGRAM) < $(SAMPLE).stdin
 
-# What rt ci proves from nothing is not proved once more for the tests of the program; its last line comes at the end.
+# rt ci proves every crate, tries the must-fail edits and runs the program; an edit that does not read is a fault here.
+# Its last line comes at the end.
 test: definitions
-	rt fmt --check
 	set -o pipefail; verdict=$$(mktemp); \
-	rt ci 2>&1 | tee $$verdict && $(MAKE) --no-print-directory -j 3 -O outside && tail -n 1 $$verdict; \
+	rt ci 2>&1 | tee $$verdict && tools/verdict $$verdict && $(MAKE) --no-print-directory -j 3 -O outside && \
+	tail -n 1 $$verdict; \
 	status=$$?; rm -f $$verdict; exit $$status
 
 longer: program hosts
@@ -100,8 +102,8 @@ HEADER := host host_theory engine_theory sheet_theory governing_theory
 # The library for hosts: static and shared, and its header.
 lib: need
 	mkdir -p target/tests $(LIB)
-	$(ALONE) rt staticlib host > target/tests/host.log 2>&1 || { cat target/tests/host.log; exit 1; }
-	cp target/staticlib/libhost.a $(LIB)/libfusnoch.a
+	cd crates/host && $(ALONE) rt lib > $(LOGS)/host.log 2>&1 || { cat $(LOGS)/host.log; exit 1; }
+	cp crates/host/out/libhost.a $(LIB)/libfusnoch.a
 	$(CC) -shared -o $(LIB)/libfusnoch.so -Wl,--whole-archive $(LIB)/libfusnoch.a -Wl,--no-whole-archive
 	tools/header $(HEADER:%=crates/%/src/lib.rt) > $(LIB)/fusnoch.h
 
@@ -117,13 +119,13 @@ hosts: need_hosts lib
 # A program over the proved libraries, for the tests.
 probe: need
 	mkdir -p target/tests
-	$(ALONE) rt staticlib probes > target/tests/probes.log 2>&1 || { cat target/tests/probes.log; exit 1; }
-	$(CC) -O2 -std=c99 $(WARN) -o $(PROBE) tests/probe.c target/staticlib/libprobes.a
+	cd crates/probes && $(ALONE) rt lib > $(LOGS)/probes.log 2>&1 || { cat $(LOGS)/probes.log; exit 1; }
+	$(CC) -O2 -std=c99 $(WARN) -o $(PROBE) tests/probe.c crates/probes/out/libprobes.a
 
-# The program, proved.
+# The program, proved and run once, on no input.
 program: need
 	mkdir -p target/tests
-	$(ALONE) rt check enclosures > target/tests/enclosures.log 2>&1 || { cat target/tests/enclosures.log; exit 1; }
+	cd crates/enclosures && $(ALONE) rt run < /dev/null > $(LOGS)/enclosures.log 2>&1 || { cat $(LOGS)/enclosures.log; exit 1; }
 
 need:
 	tools/need

@@ -59,7 +59,7 @@ PLACES = {
 # Table 4 stands as six definitions, in the order of its columns; accelerations in hundredths of g, velocities in
 # tenths of a m/s.
 CONSTANTS = 'boore-atkinson-4'
-CONSTANT_NAMES = ('a1', 'pgaLow', 'a2', 'V1', 'V2', 'Vref')
+CONSTANT_NAMES = ('a1', 'pga_low', 'a2', 'V1', 'V2', 'Vref')
 CONSTANT_UNITS = (1, 1, 1, 10, 10, 10)
 
 DIGITS = r'\d[\d_]*'

@@ -19,7 +19,7 @@ ROOT = os.path.normpath(os.path.join(os.path.dirname(os.path.abspath(__file__)),
 READING = 'docs/READING.md'
 OPEN = 'Open to callers'
 TESTS = 'For tests alone'
-WIDTH = 'idrissWidth'
+WIDTH = 'idriss_width'
 
 # A function that other crates see: its name, and all that stands before its body.
 FUNCTION = re.compile(r'^pub (?:extern "C" )?fn (\w+)\(.*?^(?=\{)', re.M | re.S)
@@ -27,7 +27,7 @@ ENSURES = re.compile(r'^    ensures [^\n]*\n(?:        [^\n]*\n)*', re.M)
 LISTED = re.compile(r'^- `(crates/\w+/specs/\w+\.antt)`$', re.M)
 
 # A crate and its theory, as they should be; each case adds one file.
-SAME = '// The same.\npub fn same(x: u64) -> u64\n    ensures { λ r. ⌜ r ≡ x ⌝ }\n{\n    x\n}\n'
+SAME = '// The same.\npub fn same(x: u64) -> u64\n    ensures { result ≡ x }\n{\n    x\n}\n'
 PAIR = {
     'crates/made/src/lib.rt': SAME,
     'crates/made/proofs/same/Proof.antt': '-- a proof\n',
@@ -136,7 +136,7 @@ def leaf_without_promise(root):
 def condition_added(root):
     """An entry point gets a requires."""
     path, name, contract = function(root, crates(root, OPEN))
-    change(root, path, contract, ENSURES.sub('    requires { ⌜ ⊥ ⌝ }\n', contract, 1)
+    change(root, path, contract, ENSURES.sub('    requires { ⊥ }\n', contract, 1)
            + ENSURES.search(contract)[0])
     return [f'{path}:', f'{name} has a requires']
 

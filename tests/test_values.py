@@ -23,37 +23,37 @@ CRATES = os.path.join(HERE, '..', 'crates')
 
 FRACTION = r'\(pos ([\d_]+) over ([\d_]+)\)'
 ENDS = FRACTION + ' ' + FRACTION
-LN = re.compile(r'pairAt ([\d_]+) \(ln ([\d_]+) ([\d_]+)\) ' + ENDS)
-ROOT = re.compile(r'pairAt ([\d_]+) \(root ([\d_]+)\) ' + ENDS)
+LN = re.compile(r'pair_at ([\d_]+) \(ln ([\d_]+) ([\d_]+)\) ' + ENDS)
+ROOT = re.compile(r'pair_at ([\d_]+) \(root ([\d_]+)\) ' + ENDS)
 NUMBERS = r'\(((?:\w+ ∷ )+)\[\]\)'
 # The fields of a scenario, in the record's order; an absent distance has no number.
 FIELDS = r'\(((?:(?:some [\d_]+|none) ∷ )+)\[\]\)'
 READS = re.compile('reads ' + NUMBERS + ' ' + FIELDS)
 VALUE = r'\((pos|neg) ([\d_]+) over ([\d_]+)\)'
-LN_EVERY = re.compile(r'atEvery \(ln ([\d_]+) ([\d_]+)\) ' + VALUE)
-SLOPE = re.compile(r'atEvery \(bnl \(booreAtkinson.rowFor ([\d_]+) \.site\) ([\d_]+)\) ' + VALUE)
-PART = re.compile(r'fraction \((alphaPart|betaFactor) \(idriss.rowFor ([\d_]+) ([\d_]+)\) '
+LN_EVERY = re.compile(r'at_every \(ln ([\d_]+) ([\d_]+)\) ' + VALUE)
+SLOPE = re.compile(r'at_every \(bnl \(boore_atkinson.row_for ([\d_]+)\)\.site ([\d_]+)\) ' + VALUE)
+PART = re.compile(r'fraction \((alpha_part|beta_factor) \(idriss.row_for ([\d_]+) ([\d_]+)\) '
                   r'\(pos ([\d_]+) over 100\)\) ' + VALUE)
 
-CUT = r'cutAt ([\d_]+) \((.*)\) \((pos|neg) ([\d_]+)\) \((pos|neg) ([\d_]+)\)'
-CUT_SCENARIO = re.compile(CUT.replace('(.*)', r'(median|sigma) \(scenarioOf ' + FIELDS + r'\)'))
-SITE = r'bnl \(rowFor ([\d_]+) \.site\) ([\d_]+)'
+CUT = r'cut_at ([\d_]+) \((.*)\) \((pos|neg) ([\d_]+)\) \((pos|neg) ([\d_]+)\)'
+CUT_SCENARIO = re.compile(CUT.replace('(.*)', r'(median|sigma) \(scenario_of ' + FIELDS + r'\)'))
+SITE = r'bnl \(row_for ([\d_]+)\)\.site ([\d_]+)'
 CUT_SLOPE = re.compile(CUT.replace('(.*)', SITE))
-CUT_NONLINEAR = re.compile(CUT.replace('(.*)', r'nonlinearPart \(' + SITE + r'\) \(stated ' + VALUE + r'\)'))
+CUT_NONLINEAR = re.compile(CUT.replace('(.*)', r'nonlinear_part \(' + SITE + r'\) \(stated ' + VALUE + r'\)'))
 # Ends are cut to so many decimal places, and so many rows have to be there.
 PLACES = 60
 LEAST_PAIRS = 10
 
 # Document 01, 'Values to try', marked P: the subjects that have to be there.
-WANTED = ('pairAt 1 (ln 3 1)', 'pairAt 2 (ln 2 1)', 'atEvery (ln 7 7)',
-          'pairAt 1 (root 18_225)',
-          'fraction (alphaPart (idriss.rowFor 700 10) (pos 700 over 100))',
-          'fraction (betaFactor (idriss.rowFor 700 10) (pos 700 over 100))',
-          'fraction (alphaPart (idriss.rowFor 675 10) (pos 675 over 100))',
-          'fraction (betaFactor (idriss.rowFor 675 10) (pos 675 over 100))',
-          'atEvery (bnl (booreAtkinson.rowFor 200 .site) 1_800)',
-          'atEvery (bnl (booreAtkinson.rowFor 200 .site) 3_000)',
-          'atEvery (bnl (booreAtkinson.rowFor 200 .site) 7_600)',
+WANTED = ('pair_at 1 (ln 3 1)', 'pair_at 2 (ln 2 1)', 'at_every (ln 7 7)',
+          'pair_at 1 (root 18_225)',
+          'fraction (alpha_part (idriss.row_for 700 10) (pos 700 over 100))',
+          'fraction (beta_factor (idriss.row_for 700 10) (pos 700 over 100))',
+          'fraction (alpha_part (idriss.row_for 675 10) (pos 675 over 100))',
+          'fraction (beta_factor (idriss.row_for 675 10) (pos 675 over 100))',
+          'at_every (bnl (boore_atkinson.row_for 200).site 1_800)',
+          'at_every (bnl (boore_atkinson.row_for 200).site 3_000)',
+          'at_every (bnl (boore_atkinson.row_for 200).site 7_600)',
           'reads (0x37 ∷ 0x01 ∷ 0xBC ∷ 0x02 ∷ 0xE8 ∷ 0x03 ∷ 0x02 ∷ 0x4B ∷ 0x00 ∷ [])')
 
 
@@ -106,7 +106,7 @@ def slope_at(period, velocity, n):
 def part_holds(match):
     """Say whether a part of Idriss's median is what a row states."""
     part, table_magnitude, period, magnitude = match.groups()[:4]
-    part = {'alphaPart': alpha_part, 'betaFactor': beta_factor}[part]
+    part = {'alpha_part': alpha_part, 'beta_factor': beta_factor}[part]
     period, table_magnitude, magnitude = (
         int(word.replace('_', '')) for word in (period, table_magnitude, magnitude))
     row = IDRISS_PERIODS.index(period)

@@ -44,7 +44,7 @@ def grouped(n):
 
 
 def code(name, comment, rows):
-    lines = ["", f"// {comment}", f"pub fn {name}(i: u64) -> Factor", f"    ensures {{ λ r. ⌜ r ≡ {name}At i ⌝ }}", "{", "    match i {"]
+    lines = ["", f"// {comment}", f"pub fn {name}(i: u64) -> Factor", f"    ensures {{ result ≡ {name}_at i }}", "{", "    match i {"]
     for i, (by, logarithm) in enumerate(rows):
         place = "_" if i == len(rows) - 1 else i
         lines += [f"        {place} => Factor {{", f"            by: {grouped(by)},", f"            logarithm: {grouped(logarithm)},", "        },"]
@@ -55,8 +55,8 @@ def definition(name, comment, rows):
     by, logarithm = rows[-1]
     lines = ["", f"-- {comment}", f"abbrev pub {name} : List Factor", f"{name} ="]
     lines += [f"    factor {grouped(b)} {grouped(l)} ∷" for b, l in rows] + ["    []", ""]
-    lines += ["-- the entry at i, and past the end the last", f"unfoldable pub {name}At : ℕ → Factor"]
-    return lines + [f"{name}At i = getD {name} i (factor {grouped(by)} {grouped(logarithm)})"]
+    lines += ["-- the entry at i, and past the end the last", f"unfoldable pub {name}_at : ℕ → Factor"]
+    return lines + [f"{name}_at i = get_or {name} i (factor {grouped(by)} {grouped(logarithm)})"]
 
 
 def proof(name, rows):
@@ -65,37 +65,38 @@ def proof(name, rows):
         f"-- `{name}` meets its contract: an answer for each place of the table, and one for every place past them.",
         "use mathlib.Core.Path.{refl}",
         "use lib.ListN.{take}",
-        "use Rattle·toolbox_theory.proofs.Places.{last}",
-        f"use Rattle·logarithm_tables_theory.specs.Tables.{{factor, {name}, {name}At}}",
-        f"use Rattle·logarithm_tables·proofs.proofs.{name}.Statement.{{statement}}",
-        f"use Rattle·logarithm_tables·proofs.proofs.{name}.Tie as tie",
+        "use Rattle.toolbox_theory.proofs.Places.{last}",
+        f"use Rattle.logarithm_tables_theory.specs.Tables.{{factor, {name}, {name}_at}}",
+        f"use Rattle.logarithm_tables.proofs.{name}.Statement.{{statement}}",
+        f"use Rattle.logarithm_tables.proofs.{name}.Tie as tie",
         "",
-        f"pub {name}-spec : {{M : Type 1}} → statement M",
-        f"unfolding {name}At",
-        f"{name}-spec =",
+        f"pub {name}_spec : {{M : Type 1}} → statement M",
+        f"unfolding {name}_at",
+        f"{name}_spec =",
         "    tie.close",
         "    (tie.spec",
     ]
     by, logarithm = rows[-1]
     n = len(rows) - 1
-    arms = [f"(λ c. rw (c .match .keys{i}) refl)" for i in range(1, len(rows))]
+    arms = [f"(λ c. rw c.in-{i}.is refl)" for i in range(n)]
     lines += ["    " + " ".join(arms[i : i + 3]) for i in range(0, n, 3)]
-    return lines + [f"    (λ c. last (factor {grouped(by)} {grouped(logarithm)}) (take {n} {name}) (c .before .args .i) (c .match .rest)))"]
+    return lines + [f"    (λ c. last (factor {grouped(by)} {grouped(logarithm)}) (take {n} {name}) c.before.args.i c.in_default.in_default-own.rest))"]
 
 
 CODE_HEAD = """// Written by tools/logarithm_tables.py. Two tables of factors that bring a number near 1, with the logarithm of each.
-ghost use mathlib.Core.Path.{_≡_};
-ghost use Rattle·logarithm_tables_theory.specs.Tables.{coarseAt, fineAt};
+#![tactic(auto)]
+
+ghost use Rattle.std.specs.Prelude.{◌≡◌};
+ghost use Rattle.logarithm_tables_theory.specs.Tables.{coarse_at, fine_at};
+
 use logarithm_tables_theory::Factor;
 
 // ln 2, in the same units: the last of the coarse logarithms.
 pub const LN_2: u64 = LN2;"""
 
 DEFINITION_HEAD = """-- Written by tools/logarithm_tables.py. The tables of the logarithm's factors.
-use mathlib.Core.List.{List, [], _∷_}
-use Prim.Native.Nat.{ℕ}
-use lib.ListN.{getD}
-use Rattle·logarithm_tables_theory·specs.specs.declared.Factor.{Factor}
+use Rattle.std.specs.Prelude.{List, [], ◌∷◌, ℕ, get_or}
+use Rattle.logarithm_tables_theory.specs.declared.Factor.{Factor}
 
 abbrev pub factor : ℕ → ℕ → Factor
 factor by logarithm = record { by = by; logarithm = logarithm }
