@@ -10,5 +10,5 @@ pub head_of_spec : {M : Type 1} → statement M
 head_of_spec =
     tie.close
     (tie.spec
-    (λ c. rw (lt-ltb sheet_most c.args.count (omega (arith, c.if-count-gt64.true))) refl)
-    (λ c. rw (le-ltb sheet_most c.args.count (omega (arith, c.if-count-gt64.false))) refl))
+    (λ c. rw (lt-ltb sheet_most c.args.count (omega arith)) refl)
+    (λ c. rw (le-ltb sheet_most c.args.count (omega arith)) refl))

@@ -1,6 +1,6 @@
 -- `unsigned_abs` meets its contract.
 use mathlib.Core.Path.{◌≡◌, refl}
-use mathlib.Core.Bool.{true}
+use mathlib.Core.Bool.{true, false}
 use Prim.Native.Nat.{ℕ, suc, ◌^◌, ◌<◌}
 use native.Mathlib.Omega.{arith}
 use borrow.Author.Rules.{rules}
@@ -25,24 +25,18 @@ minus : (z : ℤ) → SFits w64 z → lt_z (to_z w64 (of_z w64 z)) (pos 0) ≡ t
 minus (pos n) f t = absurd (omega (arith, ltb-true n 0 (rw (to_z-of_z w64 (pos n) f) at t)))
 minus (negsuc n) f t = record { n = n; small = f.sfits; size = refl; read = to_z-of_z w64 (negsuc n) f }
 
-found : (c : tie.Then-z-lt0) → Minus c.before.args.z
-found c = minus c.before.args.z c.before.ranges.z c.if-z-lt0.true
-
-casts : tie.Need-overflow_cast-result-2
-casts c =
-    let z = c.before.args.z in
-    let f = c.before.ranges.z in
-    let t = rw (to_z-of_z w64 z f) at c.if-z-lt0.false in
-    rw (to_z-of_z w64 z f) (yes_non_neg {z = z} (lt_z_no (rw t tt)), omega (arith, nat_abs-le z f.sfits))
-
 pub unsigned_abs_spec : {M : Type 1} → statement M
 unsigned_abs_spec =
     tie.close
     (tie.spec
-    (λ c. let h = found c in rw h.read (is_i64 _ (plus_one h.n h.small)))
-    (λ c. let h = found c in rw (h.read, negated h.n h.small) (record { sfits = h.small }))
-    (λ c. let h = found c in rw (h.read, negated h.n h.small, back (pos h.n) h.small) (tt, omega arith))
-    (λ c. let h = found c in rw (h.read, negated h.n h.small, back (pos h.n) h.small) (omega arith))
-    (λ c. let h = found c in rw (h.read, negated h.n h.small, back (pos h.n) h.small) (omega arith))
-    casts
+    (λ c. let h = minus c.args.z c.ranges.z (search rules) in rw h.read (is_i64 _ (plus_one h.n h.small)))
+    (λ c. let h = minus c.args.z c.ranges.z (search rules) in rw (h.read, negated h.n h.small) (record { sfits = h.small }))
+    (λ c. let h = minus c.args.z c.ranges.z (search rules) in rw (h.read, negated h.n h.small, back (pos h.n) h.small) (tt, omega arith))
+    (λ c. let h = minus c.args.z c.ranges.z (search rules) in rw (h.read, negated h.n h.small, back (pos h.n) h.small) (omega arith))
+    (λ c. let h = minus c.args.z c.ranges.z (search rules) in rw (h.read, negated h.n h.small, back (pos h.n) h.small) (omega arith))
+    (λ c.
+    let z = c.args.z in
+    let f = c.ranges.z in
+    let t : lt_z (to_z w64 (of_z w64 z)) (pos 0) ≡ false = search rules in
+    rw (to_z-of_z w64 z f) (yes_non_neg {z = z} (lt_z_no (rw (rw (to_z-of_z w64 z f) at t) tt)), omega (arith, nat_abs-le z f.sfits)))
     (λ c. search rules))
