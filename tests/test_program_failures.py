@@ -6,7 +6,7 @@ PROGRAM reads records from standard input, takes the first 4,096 bytes until the
 Where reading fails, nothing is printed and one line on standard error says after how many bytes.  Where writing fails,
 one line says after how many of how many bytes.  A call that is interrupted, would block or moves no byte to the output
 counts as failed; a part that is read or written is gone on from.  After a good run standard error is empty.  Arguments
-are ignored, and the status is 0 unless a signal ends the program.
+are ignored, and the status is 0.
 
 The pages are those of the stored streams: NAME.stdin with NAME.stdout in the folder streams beside this file.
 """
@@ -252,7 +252,8 @@ def failed_writes(program):
         due = Ended(0, page[:limit], output_failed(limit, len(page)))
         yield f'a file of at most {limit} bytes', with_file(program, data, limited(limit)), due
     yield 'a file that is long enough', with_file(program, data, limited(len(page))), Ended(0, page, b'')
-    yield 'no reader', with_no_reader(program, data), Ended(-signal.SIGPIPE, b'', b'')
+    # A Rattle program ignores this signal from its start on, as a Rust program does: the write fails, and is told.
+    yield 'no reader', with_no_reader(program, data), Ended(0, b'', output_failed(0, len(page)))
     yield ('no reader, the signal ignored', with_no_reader(program, data, ignore(signal.SIGPIPE)),
            Ended(0, b'', output_failed(0, len(page))))
     with open('/dev/full', 'wb') as full:
