@@ -11,7 +11,7 @@ SHELL := /bin/bash
 CC := gcc
 WARN := -Wall -Wextra -Werror
 PROBE := target/tests/probe
-PROGRAM := crates/enclosures/out/enclosures
+PROGRAM := target/bin/enclosures
 SAMPLE := tests/streams/sample
 LIB := target/lib
 # The hosts' programs, in C, Rust and Python: one answers the tests' questions, one prints a spectrum, one a sheet.
@@ -124,8 +124,9 @@ probe: need
 
 # The program, proved and run once, on no input.
 program: need
-	mkdir -p target/tests
+	mkdir -p target/tests $(dir $(PROGRAM))
 	cd crates/enclosures && $(ALONE) rt run < /dev/null > $(LOGS)/enclosures.log 2>&1 || { cat $(LOGS)/enclosures.log; exit 1; }
+	cp crates/enclosures/out/enclosures $(PROGRAM)
 
 need:
 	tools/need
