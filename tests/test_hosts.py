@@ -63,7 +63,7 @@ VALGRIND = ('valgrind', '--error-exitcode=99', '--leak-check=full', '-q')
 # A number of bytes that does not fit 16 bits; its low 16 bits are 3, too few for a record.
 MANY = 65536 + 3
 
-# 'What is turned away', the word and the condition; as W-201, W-202, W-204 and W-206 leave them.
+# 'What is turned away', the word and the condition; as W-201, W-202 and W-204 leave them.
 WORDS = (
     'model: neither 1 nor 2',
     "magnitude: beyond the model's limits",
@@ -79,7 +79,6 @@ WORDS = (
     'page full: lent bytes shorter than the record',
     'distances: the projection distance exceeds the rupture distance',
     'sheet: more than 64 scenarios',
-    'sheet: no scenario is accepted',
 )
 
 # What the rows of some periods are called, typed in by hand.
@@ -244,7 +243,7 @@ def small_questions():
     for model, period, words in ROWS_WORDS:
         asked += [Question(f'rows_words {model} {period}', words), *about_records([f'rows {model} {period}'])]
     asked += [Question(f'words {number}', words) for number, words in enumerate(WORDS, 1)]
-    asked += [Question(f'words {number}', 'not a refusal') for number in (0, 16, 255)]
+    asked += [Question(f'words {number}', 'not a refusal') for number in (0, 15, 255)]
     return asked + [Question('null', '7 7 7 12 7 7 7 12')]
 
 

@@ -21,9 +21,8 @@ which counts as no scenarios unless the count is above 64.
 Each place has to be what the same host answers to that scenario alone; and these answers are checked against documents
 01 and 02 and the papers, as in test_answers.py.
 
-A SHEET prints a page of nine earthquakes, and which of them governs (W-206, see test_governing.py).  The three of a
-kind have to print the same.  PYTHON_ASK stands beside the wrapper fusnoch.py.  COUNT is how many sheets are drawn,
-1,000 unless given, besides the fixed ones.
+A SHEET prints a page of eight earthquakes.  The three of a kind have to print the same.  PYTHON_ASK stands beside the
+wrapper fusnoch.py.  COUNT is how many sheets are drawn, 1,000 unless given, besides the fixed ones.
 """
 
 import ctypes
@@ -82,7 +81,6 @@ EARTHQUAKES = (
     Scenario(2, 800, None, 5200, 0, 1000, 18000),
     Scenario(1, 600, 1200, 5200, 1, 1000, 1500),
     Scenario(2, 600, 1200, 5200, 1, 1000, None),
-    Scenario(1, 700, 1044, 5200, 1, 1000, 1000),
 )
 # What is printed of them, typed in by hand; {} stands for four ends.
 COLUMNS = '  median low  median high  sigma low sigma high'
@@ -99,11 +97,8 @@ place | model                   |    M | rupture km | projection km | mechanism 
     6 | Boore and Atkinson 2008 | 8.00 |          - |        180.00 | strike-slip | {{}}
     7 | Idriss 2014             | 6.00 |      12.00 |         15.00 | normal      | refusal 13, {WORDS[12]}
     8 | Boore and Atkinson 2008 | 6.00 |      12.00 |             - | normal      | refusal 9, {WORDS[8]}
-    9 | Idriss 2014             | 7.00 |      10.44 |         10.00 | normal      | {{}}
 
-9 scenarios, 6 answered
-governing: 2, with the greatest high end of the median
-marked: 2; every other answered scenario's median is less than that of a marked one
+8 scenarios, 5 answered
 """
 # The lines of the page before the first earthquake.
 PAGE_FRONT = 4
@@ -119,7 +114,7 @@ class Question(NamedTuple):
     def line(self):
         """Return the line for a host."""
         words = chain.from_iterable(self.scenarios)
-        counted = (self.count,) if self.name.endswith(('_places', '_null')) else ()
+        counted = () if self.name in ('sheet', 'sheet_unfilled') else (self.count,)
         return text(self.name, *counted, *words)
 
 
@@ -409,13 +404,13 @@ def kinds(question):
         yield 'both models'
 
 
-def kinds_of_full(asked, name):
-    """Yield what else is asked by a name of a sheet of 64: a beginning of it, or the same in another order."""
-    sheets = {question.scenarios for question in asked if question.name == name and question.count <= SHEET}
+def kinds_of_full(asked):
+    """Yield what else is there of a sheet of 64: a beginning of it, or the same in another order."""
+    sheets = {question.scenarios for question in asked if question.name == 'sheet' and question.count <= SHEET}
     for one in sheets:
         if len(one) == SHEET and one != one[::-1]:
             others = {'a beginning': one[:-1], 'in the reverse order': one[::-1], 'the first last': one[1:] + one[:1]}
-            yield from (what for what, other in others.items() if other in sheets)
+            yield from (name for name, other in others.items() if other in sheets)
 
 
 def wanted_kinds():
@@ -445,7 +440,7 @@ def wanted_under_valgrind():
 
 def seen_faults(asked, few):
     """Yield what has not been met, and where the page is typed in wrong."""
-    seen = {*chain.from_iterable(map(kinds, asked)), *kinds_of_full(asked, 'sheet')}
+    seen = {*chain.from_iterable(map(kinds, asked)), *kinds_of_full(asked)}
     watched = {(host, question.name, question.count) for host in few for question in few[host]}
     missing = sorted(map(str, (wanted_kinds() - seen) | (wanted_under_valgrind() - watched)))
     if missing:
@@ -460,8 +455,8 @@ def seen_faults(asked, few):
 # The hosts' answers
 # ---------------------------------------------------------------------------
 
-def check_asks(asks, asked, alone, faults_of):
-    """Ask all hosts; return the lines of the scenarios alone, by host, and the faults, which a function finds."""
+def check_asks(asks, asked, alone):
+    """Ask all hosts; return the lines of the scenarios alone, by host, and the faults."""
     single, faults, same = {}, [], set()
     scenarios = [*dict.fromkeys(chain.from_iterable(question.scenarios for question in asked + alone['C']))]
     front = [text('answer', *scenario) for scenario in scenarios]
@@ -470,20 +465,20 @@ def check_asks(asks, asked, alone, faults_of):
         lines, failures = ask([path], front + [question.line() for question in own])
         single[host] = dict(zip(scenarios, lines))
         faults += [f'{host}: {failure}' for failure in failures]
-        faults += faults_of(host, own, single[host], lines[len(front):])
+        faults += sheet_faults(host, own, single[host], lines[len(front):])
         same.add(tuple(lines[:len(front) + len(asked)]))
     if len(same) != 1:
         faults.append('the three hosts do not print the same lines')
     return single, faults
 
 
-def check_memory(single, asks, few, faults_of):
-    """Return what valgrind finds, and the faults under it, which a function finds."""
+def check_memory(single, asks, few):
+    """Return what valgrind finds."""
     faults = []
     for host in WATCHED:
         lines, failures = ask([*VALGRIND, asks[host]], [question.line() for question in few[host]])
         faults += [f'{host} under valgrind: {failure}' for failure in failures]
-        faults += faults_of(f'{host} under valgrind', few[host], single[host], lines)
+        faults += sheet_faults(f'{host} under valgrind', few[host], single[host], lines)
     return faults
 
 
@@ -538,10 +533,10 @@ def as_words(fusnoch, result):
     return type(result).__name__, result
 
 
-def called(fusnoch, function, items):
-    """Return what a function of the wrapper gives for some items, or the refusal or the name of what it raises."""
+def called(fusnoch, items):
+    """Return what a sheet of some items gives, or the name of what it raises, or the refusal that it raises."""
     try:
-        return as_words(fusnoch, function(items))
+        return as_words(fusnoch, fusnoch.answer_sheet(items))
     except fusnoch.Refused as refused:
         return 'raised', as_words(fusnoch, refused)
     except Exception as error:  # whatever it is, it is compared with what is due
@@ -559,29 +554,23 @@ def place_due(fusnoch, scenario):
     return in_words(number) if number else ('Enclosure', fusnoch.answer(in_python(fusnoch, scenario)))
 
 
-def ways_faults(fusnoch, function, scenarios, wanted):
-    """Yield what is wrong with what a function gives back, in whatever way the scenarios are handed over."""
+def returned_faults(fusnoch, scenarios):
+    """Yield what is wrong with what a sheet gives back, in whatever way the scenarios are handed over."""
     made = [in_python(fusnoch, scenario) for scenario in scenarios]
+    wanted = [place_due(fusnoch, scenario) for scenario in scenarios]
     for name, way in WAYS.items():
-        got = called(fusnoch, function, way(made))
+        got = called(fusnoch, way(made))
         if got != wanted:
-            yield f'{function.__name__}: {len(made)}, by {name}: {str(got)[:300]}, {str(wanted)[:300]} is due'
-
-
-def kept_faults(fusnoch, function, scenarios):
-    """Yield where the caller's own list is not left alone."""
-    given = [in_python(fusnoch, scenario) for scenario in scenarios]
-    kept = [*given]
-    for _ in range(2):
-        called(fusnoch, function, given)
-    if len(given) != len(kept) or any(one is not other for one, other in zip(given, kept)):
-        yield f"{function.__name__}: the caller's list is changed"
+            yield f'a sheet of {len(made)}, by {name}: {str(got)[:300]}, {str(wanted)[:300]} is due'
 
 
 def lists_faults(fusnoch, scenarios):
-    """Yield what is wrong with the list that is given back."""
+    """Yield what is wrong with the lists: the caller's own, which is left alone, and the one that is given back."""
     given = [in_python(fusnoch, scenario) for scenario in scenarios]
+    kept = [*given]
     first, second = fusnoch.answer_sheet(given), fusnoch.answer_sheet(given)
+    if len(given) != len(kept) or any(one is not other for one, other in zip(given, kept)):
+        yield "the caller's list is changed"
     if type(first) is not list or first is second or first is given:
         yield f'a list of its own is due, not {type(first).__name__}'
     ends = [*chain.from_iterable(place for place in first if isinstance(place, fusnoch.Enclosure))]
@@ -596,36 +585,34 @@ def unfit_items(fusnoch):
             [in_python(fusnoch, whole)], fusnoch.Scenario, fusnoch.Refused(1)]
 
 
-def unfit_faults(fusnoch, function):
-    """Yield where a function raises no TypeError: what is no scenario at some place, and what is no iterable."""
-    title = function.__name__
+def unfit_faults(fusnoch):
+    """Yield where no TypeError is raised: what is no scenario at some place, and what is no iterable."""
     accepted, refused = (in_python(fusnoch, WHOLE[IDRISS]._replace(model=model)) for model in (IDRISS, 0))
     for wrong, one, count in product(unfit_items(fusnoch), (accepted, refused), (1, 2, 3, SHEET)):
         for at in {0, count // 2, count - 1}:
             given = [one] * count
             given[at] = wrong
             for name, way in WAYS.items():
-                if called(fusnoch, function, way(given)) != 'TypeError':
-                    yield f'{title}: {wrong!r} at place {at + 1} of {count}, by {name}: no TypeError'
+                if called(fusnoch, way(given)) != 'TypeError':
+                    yield f'{wrong!r} at place {at + 1} of {count}, by {name}: no TypeError'
     for wrong in (None, 5, 5.0, accepted, refused, WHOLE[IDRISS][0], fusnoch.Scenario, object()):
-        if called(fusnoch, function, wrong) != 'TypeError':
-            yield f'{title}({wrong!r}): no TypeError'
+        if called(fusnoch, wrong) != 'TypeError':
+            yield f'answer_sheet({wrong!r}): no TypeError'
     for given in ((), ([accepted], [accepted]), (accepted, accepted), (1, [accepted])):
-        if raised(function, *given) != 'TypeError':
-            yield f'{title}{given}: no TypeError'
+        if raised(fusnoch.answer_sheet, *given) != 'TypeError':
+            yield f'answer_sheet{given}: no TypeError'
 
 
-def too_many_faults(fusnoch, function):
-    """Yield where a function does not raise 14 for more than 64 items, whatever they are."""
+def too_many_faults(fusnoch):
+    """Yield where more than 64 items, whatever they are, do not raise 14."""
     one = in_python(fusnoch, WHOLE[IDRISS])
     for item, count in product((one, *unfit_items(fusnoch)), (*LONGER, 2 ** 16, LONGEST)):
         for name, way in WAYS.items():
             # The item is at all places, or at the last, after scenarios.
             for items in ([item] * count, [one] * (count - 1) + [item]):
-                got = called(fusnoch, function, way(items))
+                got = called(fusnoch, way(items))
                 if got != ('raised', in_words(TOO_MANY)):
-                    named = f'{function.__name__}: {count} items, the last {item!r}, by {name}'
-                    yield f'{named}: {str(got)[:300]}, {TOO_MANY} is due'
+                    yield f'{count} items, the last {item!r}, by {name}: {str(got)[:300]}, {TOO_MANY} is due'
 
 
 def plain(fusnoch, scenario, turn):
@@ -652,11 +639,9 @@ def struct_due(fusnoch, count, scenarios):
     return [0, count, *chain.from_iterable(zip(*places))]
 
 
-def struct_faults(fusnoch, function, due, asked):
-    """Yield what is wrong with the struct that the library's own function hands back, by the types of the wrapper.
-
-    Another function returns all numbers that are due in it.
-    """
+def struct_faults(fusnoch, asked):
+    """Yield what is wrong with the struct that the library's own function hands back, by the types of the wrapper."""
+    function = fusnoch.LIBRARY.fusnoch_answer_sheet
     for _, count, scenarios in asked:
         data = b''.join(bytes(plain(fusnoch, scenario, turn)) for turn, scenario in enumerate(scenarios))
         kind = function.argtypes[1]
@@ -664,30 +649,28 @@ def struct_faults(fusnoch, function, due, asked):
             yield f'{ctypes.sizeof(kind)} bytes are taken, {len(data)} are due'
             return
         got = [*numbers_in(function(count, kind.from_buffer_copy(data)))]
-        wanted = due(fusnoch, count, scenarios)
+        wanted = struct_due(fusnoch, count, scenarios)
         if got != wanted:
             at = first_difference(got, wanted)
-            yield f'{function.__name__}: count {count}: number {at}: {got[at:at + 1]}, {wanted[at:at + 1]} is due'
+            yield f'fusnoch_answer_sheet: count {count}: number {at}: {got[at:at + 1]}, {wanted[at:at + 1]} is due'
 
 
 def places_alone(rng, asked):
     """Return some questions about the struct."""
-    return rng.sample([question for question in asked if question.name.endswith('_places')], TRIED)
+    return rng.sample([question for question in asked if question.name == 'sheet_places'], TRIED)
 
 
 def python_faults(asked, in_structs, fusnoch):
     """Yield the faults of Python's wrapper where no types see to the caller's mistakes, and of the struct."""
     if (type(fusnoch.SHEET_MOST), fusnoch.SHEET_MOST) != (int, SHEET):
         yield f'SHEET_MOST is {fusnoch.SHEET_MOST!r}'
-    function = fusnoch.answer_sheet
-    for _, count, scenarios in asked:
-        if count <= SHEET:
-            yield from ways_faults(fusnoch, function, scenarios, [place_due(fusnoch, one) for one in scenarios])
-            yield from kept_faults(fusnoch, function, scenarios)
-            yield from lists_faults(fusnoch, scenarios)
-    yield from unfit_faults(fusnoch, function)
-    yield from too_many_faults(fusnoch, function)
-    yield from struct_faults(fusnoch, fusnoch.LIBRARY.fusnoch_answer_sheet, struct_due, in_structs)
+    for question in asked:
+        if question.count <= SHEET:
+            yield from returned_faults(fusnoch, question.scenarios)
+            yield from lists_faults(fusnoch, question.scenarios)
+    yield from unfit_faults(fusnoch)
+    yield from too_many_faults(fusnoch)
+    yield from struct_faults(fusnoch, in_structs)
 
 
 # ---------------------------------------------------------------------------
@@ -699,9 +682,9 @@ def main(words):
     asks, pages, count, seed = command_line(words, __doc__, COUNT, SEED)
     rng, tally = random.Random(seed), Tally()
     asked, alone, few = all_questions(rng, count)
-    single, faults = check_asks(asks, asked, alone, sheet_faults)
+    single, faults = check_asks(asks, asked, alone)
     faults += single_faults(tally, single['C'])
-    faults += check_memory(single, asks, few, sheet_faults)
+    faults += check_memory(single, asks, few)
     faults += check_pages(single, pages)
     faults += seen_faults(asked + alone['C'] + alone['Rust'], few)
     # A wrapper with a wrong struct could end this program, and nothing would be printed.

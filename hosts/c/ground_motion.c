@@ -18,8 +18,7 @@ static const char *const WORDS[] = {
     "plain default: a field written with its absent number",
     "page full: lent bytes shorter than the record",
     "distances: the projection distance exceeds the rupture distance",
-    "sheet: more than 64 scenarios",
-    "sheet: no scenario is accepted"};
+    "sheet: more than 64 scenarios"};
 
 const char *ground_motion_words(uint8_t number)
 {

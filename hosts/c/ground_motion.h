@@ -49,7 +49,7 @@ typedef struct {
     size_t rest_length;
 } ground_motion_reading;
 
-/* What the number of a refusal, 1 to 15, stands for: "period: neither 0 nor from 10 to 10000". */
+/* What the number of a refusal, 1 to 14, stands for: "period: neither 0 nor from 10 to 10000". */
 const char *ground_motion_words(uint8_t number);
 
 /* Room for the words of ground_motion_rows_words. */

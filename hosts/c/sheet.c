@@ -1,5 +1,5 @@
 /* Prints a page of earthquakes for one bridge, answered in one go; a scenario that is refused does not stop the
-   others.  Then says which of them governs, and which are marked. */
+   others. */
 #include <inttypes.h>
 #include <stdio.h>
 
@@ -27,7 +27,6 @@ static const struct {
     {GROUND_MOTION_BOORE_ATKINSON, 800, NULL, &(Projection){18000}, GROUND_MOTION_STRIKE_SLIP},
     {GROUND_MOTION_IDRISS, 600, &(Rupture){1200}, &(Projection){1500}, GROUND_MOTION_NORMAL},
     {GROUND_MOTION_BOORE_ATKINSON, 600, &(Rupture){1200}, NULL, GROUND_MOTION_NORMAL},
-    {GROUND_MOTION_BOORE_ATKINSON, 700, &(Rupture){1200}, &(Projection){1000}, GROUND_MOTION_STRIKE_SLIP},
 };
 
 enum { LINES = sizeof PAGE / sizeof *PAGE, CELL = 16 };
@@ -88,40 +87,19 @@ static void print_answer(fusnoch_answer a)
                a.sigma_high);
 }
 
-static void print_governing(fusnoch_screening screening)
-{
-    const char *before = " ";
-
-    printf("governing: %zu, with the greatest high end of the median\nmarked:", screening.position);
-    for (size_t i = 0; i < GROUND_MOTION_SHEET_MOST; i++)
-        if (screening.marks[i] != 0) {
-            printf("%s%zu", before, i + 1);
-            before = ", ";
-        }
-    puts("; every other answered scenario's median is less than that of a marked one");
-}
-
-/* Says on standard error with which number something is refused, and returns whether it is. */
-static int is_refused(uint8_t number)
-{
-    if (number != 0)
-        fprintf(stderr, "refusal %u, %s\n", number, ground_motion_words(number));
-    return number != 0;
-}
-
 int main(void)
 {
     fusnoch_scenario page[LINES];
     fusnoch_sheet sheet;
-    fusnoch_screening screening;
     size_t answered = 0;
 
     for (size_t i = 0; i < LINES; i++)
         page[i] = scenario_in(i);
     sheet = ground_motion_answer_sheet(page, LINES);
-    screening = ground_motion_governing(page, LINES);
-    if (is_refused(sheet.number) || is_refused(screening.number))
+    if (sheet.number != 0) {
+        fprintf(stderr, "refusal %u, %s\n", sheet.number, ground_motion_words(sheet.number));
         return 1;
+    }
     print_heading();
     for (size_t i = 0; i < sheet.count; i++) {
         print_scenario(i + 1, page[i]);
@@ -129,6 +107,5 @@ int main(void)
         answered += sheet.numbers[i] == 0;
     }
     printf("\n%zu scenarios, %zu answered\n", sheet.count, answered);
-    print_governing(screening);
     return 0;
 }

@@ -36,7 +36,6 @@ WORDS = {
     12: 'page full: lent bytes shorter than the record',
     13: 'distances: the projection distance exceeds the rupture distance',
     14: 'sheet: more than 64 scenarios',
-    15: 'sheet: no scenario is accepted',
 }
 
 

@@ -1,7 +1,7 @@
 #!/usr/bin/env python3
 """Print a page of earthquakes for one bridge, answered in one go.
 
-A scenario that is refused does not stop the others.  Then say which of them governs, and which are marked.
+A scenario that is refused does not stop the others.
 """
 
 import fusnoch
@@ -29,7 +29,6 @@ PAGE = [
     earthquake(BOORE_ATKINSON, 800, STRIKE_SLIP, projection_distance=18000),
     earthquake(IDRISS, 600, NORMAL, rupture_distance=1200, projection_distance=1500),
     earthquake(BOORE_ATKINSON, 600, NORMAL, rupture_distance=1200),
-    earthquake(BOORE_ATKINSON, 700, STRIKE_SLIP, rupture_distance=1200, projection_distance=1000),
 ]
 
 
@@ -57,18 +56,14 @@ place | {"model":23} | {"M":>4} | rupture km | projection km | {"mechanism":11} 
 
 
 def main():
-    """Print the heading, a line for each scenario, how many are answered, and which governs."""
+    """Print the heading, a line for each scenario, and how many are answered."""
     answers = fusnoch.answer_sheet(PAGE)
-    position, marked = fusnoch.governing(PAGE)
     print(heading())
     for place, (scenario, answer) in enumerate(zip(PAGE, answers), 1):
         print(f'{place:5} | {MODELS[scenario.model]:23} | {hundredths(scenario.magnitude):>4} | '
               f'{hundredths(scenario.rupture_distance):>10} | {hundredths(scenario.projection_distance):>13} | '
               f'{MECHANISMS[scenario.mechanism]:11} | {cells(answer)}')
     print(f'\n{len(answers)} scenarios, {sum(not isinstance(answer, Refused) for answer in answers)} answered')
-    print(f'governing: {position}, with the greatest high end of the median')
-    print(f'marked: {", ".join(map(str, marked))}; '
-          "every other answered scenario's median is less than that of a marked one")
 
 
 if __name__ == '__main__':

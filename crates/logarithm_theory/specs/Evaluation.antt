@@ -69,6 +69,6 @@ ln_of a b = cond (eqb a b) both_zero (scaled_ln_of (scaled_of a b))
 
 -- ---- √X
 
--- the k of its lower value k/rootFineness
+-- the k of its lower value k/root_fineness
 unfoldable pub root_of : ℕ → ℕ
 root_of X = whole_root (X * (root_fineness * root_fineness))

@@ -36,7 +36,7 @@ root_fineness = 131_072
 unfoldable pub width : Pair → Fraction
 width P = P.high -q P.low
 
--- √X lies from k/rootFineness to (k + 1)/rootFineness, and 0.01151, the greatest absolute value of c3 in
+-- √X lies from k/root_fineness to (k + 1)/root_fineness, and 0.01151, the greatest absolute value of c3 in
 -- Boore-Atkinson's Table 6, times that over 100 is less than 1 unit wide
 pub record RootEnds (X k : ℕ) : Type 0 where
   pub encloses : Encloses (root_values root_fineness k) (root X)

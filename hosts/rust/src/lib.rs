@@ -93,11 +93,11 @@ impl fmt::Display for Rows {
     }
 }
 
-/// The number of a refusal, 1 to 15; shown, it is the words for it.
+/// The number of a refusal, 1 to 14; shown, it is the words for it.
 #[derive(Clone, Copy, Debug, PartialEq, Eq)]
 pub struct Refusal(pub u8);
 
-const WORDS: [&str; 16] = [
+const WORDS: [&str; 15] = [
     "not a refusal",
     "model: neither 1 nor 2",
     "magnitude: beyond the model's limits",
@@ -113,7 +113,6 @@ const WORDS: [&str; 16] = [
     "page full: lent bytes shorter than the record",
     "distances: the projection distance exceeds the rupture distance",
     "sheet: more than 64 scenarios",
-    "sheet: no scenario is accepted",
 ];
 
 impl fmt::Display for Refusal {
