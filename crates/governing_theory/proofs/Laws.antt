@@ -3,33 +3,30 @@ use mathlib.Core.Path.{◌≡◌, refl, sym, ap, ◌∙◌}
 use mathlib.Core.Bool.{Bool, true, false, ◌&&◌}
 use mathlib.Core.List.{List, [], ◌∷◌}
 use mathlib.Core.Logic.{inl, inr}
-use Prim.Native.Nat.{ℕ, zero, suc, ◌≤◌, ◌<◌}
+use Prim.Native.Nat.{ℕ, suc, ◌≤◌, ◌<◌}
 use native.Mathlib.Decide.{dec_lt}
 use native.Mathlib.Omega.{arith}
-use borrow.Author.Tests.{ne_eqb}
 use lib.Dec.{T, eqb, eqb→eq}
-use lib.IntN.{ℤ, pos}
+use lib.IntN.{ℤ}
 use lib.ListN.{length, get_or, take, replicate}
 use lib.Signed.{le_z, ◌≤ℤ◌, ◌<ℤ◌, le_z_yes}
 use Rattle.toolbox_theory.proofs.Tests.{both}
-use Rattle.toolbox_theory.proofs.Whole.{le_in, gt_out, ≤ℤ_trans, <ℤ_in}
+use Rattle.toolbox_theory.proofs.Whole.{gt_out, ≤ℤ_trans, <ℤ_in}
 use Rattle.exact_theory.specs.Formula.{ends, Encloses}
 use Rattle.exact_theory.proofs.UnitLaws.{in_order}
 use Rattle.scenario_theory.specs.declared.Scenario.{Scenario}
 use Rattle.scenario_theory.specs.Checks.{◌when◌}
 use Rattle.engine_theory.specs.Models.{median}
 use Rattle.engine_theory.specs.Promise.{EnclosesBoth}
-use Rattle.engine_theory.specs.Flat.{ends_in}
 use Rattle.sheet_theory.specs.declared.FlatSheet.{FlatSheet}
 use Rattle.sheet_theory.specs.Promise.{sheet_most, answer_at, SheetPromise}
 use Rattle.sheet_theory.specs.Evaluation.{head_of, sheet_of}
 use Rattle.sheet_theory.proofs.Filling.{all_z}
 use Rattle.sheet_theory.proofs.Laws.{sheet_promised, sheet_alike}
 use Rattle.governing_theory.specs.declared.FlatScreening.{FlatScreening}
-use Rattle.governing_theory.specs.declared.Greatest.{Greatest}
 use Rattle.governing_theory.specs.Promise.{Accepted, low_at, high_at, ends_at, GreatestAt, Named, Marked}
 use Rattle.governing_theory.specs.Promise.{GreatestLow, ToMark, Outdone, Governs, GoverningPromise}
-use Rattle.governing_theory.specs.Evaluation.{greatest_high, greatest_low, mark_of, marks_of, no_screening}
+use Rattle.governing_theory.specs.Evaluation.{greatest_high, greatest_low, marks_of, no_screening}
 use Rattle.governing_theory.specs.Evaluation.{screening_of, governing_of}
 use Rattle.governing_theory.proofs.Less.{less}
 use Rattle.governing_theory.proofs.Leading.{Led, led}

@@ -1,15 +1,12 @@
 -- Ends of which the one's high end is below the other's low end: the enclosed value is the less.
-use mathlib.Core.Path.{◌≡◌}
-use Prim.Native.Nat.{ℕ}
 use native.Mathlib.Omega.{arith}
 use lib.IntN.{ℤ}
 use lib.Signed.{◌<ℤ◌}
-use Rattle.toolbox_theory.specs.Whole.{up, down}
 use Rattle.toolbox_theory.proofs.Whole.{lt_out}
 use Rattle.exact_theory.specs.Fraction.{Fraction, ◌<q◌}
 use Rattle.exact_theory.specs.Pair.{Pair, ◌∈◌}
 use Rattle.exact_theory.specs.Formula.{units, ends}
-use Rattle.exact_theory.proofs.FractionLaws.{Is, over-Is, lt_of, ≤q-<q_trans, <q-≤q_trans}
+use Rattle.exact_theory.proofs.FractionLaws.{over-Is, lt_of, ≤q-<q_trans, <q-≤q_trans}
 use Rattle.governing_theory.specs.Less.{Less}
 
 -- a unit more is more

@@ -1,6 +1,5 @@
 -- The three cases of what is computed of a sheet.
 use mathlib.Core.Path.{◌≡◌, refl, sym}
-use Prim.Native.Nat.{ℕ}
 use borrow.Author.Tests.{ne_eqb}
 use Rattle.scenario_theory.proofs.CheckLaws.{is_first, is_refused}
 use Rattle.sheet_theory.specs.declared.FlatSheet.{FlatSheet}
