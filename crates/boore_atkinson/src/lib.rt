@@ -7,7 +7,8 @@ ghost use Rattle.interval_theory.specs.Bound.{Sized};
 ghost use Rattle.boore_atkinson_theory.specs.Sizes.{curve_most};
 ghost use Rattle.boore_atkinson_theory.specs.Rows.{row_at};
 ghost use Rattle.boore_atkinson_theory.specs.Promise.{MedianDomain, MedianEnds, NonlinearDomain, NonlinearEnds};
-ghost use Rattle.boore_atkinson_theory.specs.Evaluation.{vs30_ln_of, curve_for, median_pair_of, median_of, nonlinear_ends_of};
+ghost use Rattle.boore_atkinson_theory.specs.Evaluation.{vs30_ln_of, curve_for, median_pair_of, median_of};
+ghost use Rattle.boore_atkinson_theory.specs.Evaluation.{nonlinear_ends_of};
 
 use boore_atkinson_rock as rock;
 use boore_atkinson_site as site;

@@ -4,7 +4,8 @@
 ghost use Rattle.std.specs.Prelude.{◌≡◌, ◌≤◌, ◌+◌, ◌*◌};
 ghost use Rattle.interval_theory.specs.Bound.{Sized};
 ghost use Rattle.boore_atkinson_theory.specs.Rows.{DistanceLimits, MagnitudeLimits};
-ghost use Rattle.boore_atkinson_theory.specs.Evaluation.{effective_of, spread_of, fall_of, level_of, magnitude_of, rock_of};
+ghost use Rattle.boore_atkinson_theory.specs.Evaluation.{effective_of, spread_of, fall_of, level_of, magnitude_of};
+ghost use Rattle.boore_atkinson_theory.specs.Evaluation.{rock_of};
 ghost use Rattle.boore_atkinson_theory.specs.Evaluation.{minus_p_of};
 ghost use Rattle.boore_atkinson_theory.specs.Sizes.{EffectiveSized, MagnitudeBounds, Small, term_most, rock_most};
 ghost use Rattle.interval_theory.specs.Bound.{SignedSized};

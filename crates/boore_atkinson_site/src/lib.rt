@@ -152,7 +152,8 @@ fn straight(b: Ends) -> Ends
 // The branch or branches of p above ln 0.03.
 fn upper(b: Ends) -> Ends
     requires { (b.low ≤ b.high) × (b.low < 3_506_557_898) }
-    ensures { (result ≡ branch_of b minus_ln_a2 (cubic_of (z_of b)) (straight_of b)) × Sized result curve_most curve_most }
+    ensures { (result ≡ branch_of b minus_ln_a2 (cubic_of (z_of b)) (straight_of b)) ×
+        Sized result curve_most curve_most }
 {
     if 2_407_945_609 <= b.low {
         return cubic(transition_z(b));

@@ -7,7 +7,8 @@ ghost use Rattle.std.specs.Prelude.{◌≡◌, map, ◌<◌};
 ghost use Rattle.scenario_theory.specs.Rows.{row_count};
 ghost use Rattle.boore_atkinson_theory.specs.Tables.{table3, table6, table7, table8};
 ghost use Rattle.boore_atkinson_theory.specs.Rows.{row_at, total_at, pga};
-ghost use Rattle.boore_atkinson_theory.specs.Rows.{site_parts, distance_parts, magnitude_parts, total_parts, SiteLimits};
+ghost use Rattle.boore_atkinson_theory.specs.Rows.{site_parts, distance_parts, magnitude_parts, total_parts};
+ghost use Rattle.boore_atkinson_theory.specs.Rows.{SiteLimits};
 ghost use Rattle.boore_atkinson_theory.specs.Rows.{DistanceLimits, MagnitudeLimits};
 
 use boore_atkinson_theory::{DistanceRow, MagnitudeRow, SiteRow, TotalRow};

@@ -1,5 +1,5 @@
--- What `median_between_of` and `sigma_between_of` promise (specs/Promise), between any two neighbouring rows of the tables;
--- the row PGA, 0, is no neighbour.
+-- What `median_between_of` and `sigma_between_of` promise (specs/Promise), between any two neighbouring rows of the
+-- tables; the row PGA, 0, is no neighbour.
 use mathlib.Core.Bool.{Bool, true, false, cond}
 use mathlib.Core.List.{List, [], ◌∷◌}
 use mathlib.Core.Path.{◌≡◌}
@@ -62,7 +62,8 @@ module _ {k m d v : ℕ} (mechanism : ℕ) (some : 1 ≤ k) (h : MedianDomain (k
   between_takes =
       rw at.is
       (step_takes (next some h.row at) (pair k) (pair (k + 1)) (median_pair_of_sized mechanism first)
-      (median_pair_of_sized mechanism h) row_step (rows_near mechanism first h) (omega arith) (omega arith) (omega arith))
+      (median_pair_of_sized mechanism h) row_step (rows_near mechanism first h) (omega arith) (omega arith)
+      (omega arith))
 
   pub median_between_of_promise :
       MedianBetweenEnds (row_at k) (row_at (k + 1)) s m d v mechanism
@@ -73,7 +74,8 @@ module _ {k m d v : ℕ} (mechanism : ℕ) (some : 1 ≤ k) (h : MedianDomain (k
       (between_promise (next some h.row at) (pair k) (pair (k + 1)) (median_pair_of_sized mechanism first)
       (median_pair_of_sized mechanism h) row_step (rows_near mechanism first h)
       (median_pair_of_at_points mechanism first) (median_pair_of_at_points mechanism h) 439
-      (omega (arith, (next some h.row at).least)) median_width median_least median_most between_width 1_000 (omega arith)
+      (omega (arith, (next some h.row at).least)) median_width median_least median_most between_width 1_000
+      (omega arith)
       (median_pair_of_ranges mechanism first) (median_pair_of_ranges mechanism h))
 
 -- ---- sigma
@@ -88,7 +90,8 @@ totals k =
     (1_000_000 * a.1, 1_000_000 * b.1 + most) ∷ (1_000_000 * b.1, 1_000_000 * a.1 + most) ∷ []
 
 all_totals : T (all_below (row_count - 2) (λ j. all_le (totals (j + 1))))
-unfolding all_below total_at up down ◌over◌ ln_of scaled_of scaled_ln_of mantissa_ln_of near_one_of coarse_at fine_at count_leading_zeros
+unfolding all_below total_at up down ◌over◌ ln_of scaled_of scaled_ln_of mantissa_ln_of near_one_of
+    coarse_at fine_at count_leading_zeros
 all_totals = tt
 
 module _ {k : ℕ} (mechanism : ℕ) (some : 1 ≤ k) (few : k + 1 < row_count) {s : Step} (at : StepAt periods k s) where

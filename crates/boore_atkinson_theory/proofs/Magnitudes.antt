@@ -135,4 +135,8 @@ pga_within = tt
 pub pga_falls : (m mechanism : ℕ) → m ≤ 800 →
     let e = magnitude_of pga_magnitude m mechanism in e.gain + 10_000 * 1_151 ≤ e.loss
 pga_falls m mechanism high =
-    omega (arith, terms_within pga_magnitude 800 800 fall_limits pga_within mechanism, rises pga_magnitude mechanism high)
+    omega (
+      arith,
+      terms_within pga_magnitude 800 800 fall_limits pga_within mechanism,
+      rises pga_magnitude mechanism high,
+    )

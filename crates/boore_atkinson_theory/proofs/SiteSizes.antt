@@ -83,7 +83,8 @@ module _ {s : SiteRow} (l : SiteLimits s) {v : ℕ} (slow : V1 ≤ v) where
 
   pub fast_sized : v < Vref → Sized (fast_slope_of s v) 6 900_000_000
   unfolding fast_slope_of
-  fast_sized h = at_most (multiple 3_800_000 (omega arith) (product (given (below_760 slow h)) (pair over_fast tt))) _ tt
+  fast_sized h = at_most (multiple 3_800_000 (omega arith)
+      (product (given (below_760 slow h)) (pair over_fast tt))) _ tt
 
   pub slope_sized : Sized (slope_of s v) 6 900_000_000
   unfolding slope_of
@@ -162,7 +163,8 @@ module _ {b : Ends} {most : ℕ} (n : Sized b rock_width most) where
       (cubic (given {β = record { width = 5; least = 1_098_612_285; most = 1_098_612_290 }} (omega arith)))
       (given {β = record { width = 7; least = 405_465_099; most = 405_465_120 }} (omega arith))) _ tt
 
-  upper_narrow : b.low < minus_ln_a1.high → Sized (branch_of b minus_ln_a2 (cubic_of (z_of b)) (straight_of b)) 21 curve_most
+  upper_narrow : b.low < minus_ln_a1.high →
+      Sized (branch_of b minus_ln_a2 (cubic_of (z_of b)) (straight_of b)) 21 curve_most
   unfolding cubic_of z_of straight_of
   upper_narrow h =
       branch_cases (λ e. Sized e 21 curve_most) _ _ _ _

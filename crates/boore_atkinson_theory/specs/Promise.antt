@@ -1,6 +1,6 @@
 -- What is promised of the ends of median, sigma and nonlinear part, whatever the engine computes. proofs/Laws and
--- Between show it of `median_of`, `sigma_of`, `nonlinear_ends_of`, `median_between_of` and `sigma_between_of`; nobody has to
--- read those to believe it.
+-- Between show it of `median_of`, `sigma_of`, `nonlinear_ends_of`, `median_between_of` and `sigma_between_of`; nobody
+-- has to read those to believe it.
 use Rattle.std.specs.Prelude.{◌≡◌, ℕ, ◌+◌, ◌^◌, ◌≤◌, ◌<◌, pos, neg_ℤ, ◌+ℤ◌, ◌≤ℤ◌}
 use Rattle.exact_theory.specs.Fraction.{Fraction}
 use Rattle.exact_theory.specs.Pair.{◌∈◌}
@@ -78,7 +78,8 @@ pub record SigmaEnds (t : Total) (mechanism : ℕ) (e : SignedEnds) : Type 0 whe
 abbrev pub MedianBetweenEnds : Row → Row → Step → ℕ → ℕ → ℕ → ℕ → SignedEnds → Type 0
 MedianBetweenEnds r q s magnitude projection_distance vs30 mechanism e =
     BetweenEnds (between s.period s.lower s.upper (median r magnitude projection_distance vs30 mechanism)
-    (median q magnitude projection_distance vs30 mechanism)) between_width (median_least + 1_000) (median_most + 1_000) e
+    (median q magnitude projection_distance vs30 mechanism)) between_width (median_least + 1_000)
+    (median_most + 1_000) e
 
 -- and sigma "goes the same way" (W-201); it lies from 0 to 1, but for 100 units
 abbrev pub SigmaBetweenEnds : Total → Total → Step → ℕ → SignedEnds → Type 0

@@ -41,7 +41,8 @@ spread_most r low high = 100 * r.0 + r.2 * (high - 450) - r.1 * (low - 450)
 
 abbrev pub fall_bound : DistanceRow → ℕ → ℕ → Bound
 fall_bound r low high =
-    sum_bound (multiple_bound (spread_most r low high) (size ln_width ln_most)) (multiple_bound (200 * r.3) (size 78 km_most))
+    sum_bound (multiple_bound (spread_most r low high) (size ln_width ln_most))
+    (multiple_bound (200 * r.3) (size 78 km_most))
 
 abbrev pub linear_bound : SiteRow → Bound
 linear_bound s = multiple_bound (20_000 * s.0) (size ln_width vs30_most)

@@ -29,7 +29,8 @@ abbrev bytes : List ℕ
 bytes = 0x37 ∷ 0x01 ∷ 0xbc ∷ 0x02 ∷ 0xe8 ∷ 0x03 ∷ 0x02 ∷ 0x09 ∷ 0x00 ∷ []
 
 read_with_6 : read_of bytes ≡ Refused 6
-unfolding read_of read_refusal map_refusal length_by scenario_in size_of numbers_of absent_written refusal_of lacks_distance
+unfolding read_of read_refusal map_refusal length_by scenario_in size_of numbers_of absent_written refusal_of
+    lacks_distance
     projection_exceeds refusal_by_model refusal_by beyond_periods
 read_with_6 = refl
 

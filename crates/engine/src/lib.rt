@@ -55,7 +55,8 @@ fn idriss_median(
     rows: TwoRows,
 ) -> SignedEnds
     requires placed { Placed idriss idriss_row magnitude distance.0 velocity mechanism period place }
-    requires rows_value { rows ≡ idriss_rows_of magnitude distance.0 velocity mechanism (first_in place) (last_in place) }
+    requires rows_value { rows ≡ idriss_rows_of magnitude distance.0 velocity mechanism (first_in place)
+        (last_in place) }
     ensures { result ≡ idriss_median_ends (table_for magnitude) magnitude distance.0 velocity mechanism period }
 {
     match place {
@@ -128,7 +129,8 @@ fn at_boore_atkinson_row(
     k: usize,
     rows: TwoRows,
 ) -> Enclosure
-    requires placed { Placed boore_atkinson boore_atkinson_row magnitude distance.0 velocity mechanism period (P.Row k) }
+    requires placed { Placed boore_atkinson boore_atkinson_row magnitude distance.0 velocity mechanism period
+        (P.Row k) }
     requires rows_value { rows ≡ boore_atkinson_rows_of magnitude distance.0 velocity mechanism k k }
     ensures { result ≡ boore_atkinson_enclosure_of magnitude distance.0 velocity mechanism period }
 {

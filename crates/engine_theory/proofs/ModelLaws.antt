@@ -135,7 +135,8 @@ module _ (s : Scenario) where
       ends_of _ idriss_promise.sigma_width idriss_sigma_width (omega arith) g.encloses g.narrow g.small
 
   module _ {R : ℕ} (w : Within boore_atkinson s.magnitude R s.velocity s.mechanism s.period) where
-    boore_atkinson_median_lem : MedianEnds (width_at boore_atkinson T boore_atkinson_width) (boore_atkinson_median_by R s)
+    boore_atkinson_median_lem : MedianEnds (width_at boore_atkinson T boore_atkinson_width)
+        (boore_atkinson_median_by R s)
         (boore_atkinson_median_ends s.magnitude R s.velocity s.mechanism T)
     boore_atkinson_median_lem =
         by_tabled MedianEnds (has_row boore_atkinson T)
@@ -150,7 +151,11 @@ module _ (s : Scenario) where
         let b = on_step boore_atkinson_tabled T e w.period_answered in
         let d = boore_atkinson_median_domain b.last w in
         let m =
-        rw (← b.rows.next, ← row_at_lem (neighbour_below boore_atkinson T), ← row_at_lem (neighbour_above boore_atkinson T)) at
+        rw (
+          ← b.rows.next,
+          ← row_at_lem (neighbour_below boore_atkinson T),
+          ← row_at_lem (neighbour_above boore_atkinson T),
+        ) at
         (median_between_of_promise s.mechanism (not_first b.rows) d b.step) in
         median_ends (between_ends (2 * boore_atkinson_width) (omega arith) m) (omega arith) (omega arith) m.reaches)
 

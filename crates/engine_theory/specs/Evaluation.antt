@@ -17,8 +17,10 @@ use Rattle.idriss_theory.specs.Tables.{Row, table_for, row_in}
 use Rattle.idriss_theory.specs.Evaluation.{median_of as idriss_median_of, sigma_of as idriss_sigma_of}
 use Rattle.idriss_theory.specs.Evaluation.{median_between_of as idriss_median_between_of}
 use Rattle.boore_atkinson_theory.specs.Tables.{row_for, total_for}
-use Rattle.boore_atkinson_theory.specs.Evaluation.{median_of as boore_atkinson_median_of, sigma_of as boore_atkinson_sigma_of}
-use Rattle.boore_atkinson_theory.specs.Evaluation.{median_between_of as boore_atkinson_median_between_of, sigma_between_of}
+use Rattle.boore_atkinson_theory.specs.Evaluation.{median_of as boore_atkinson_median_of}
+use Rattle.boore_atkinson_theory.specs.Evaluation.{sigma_of as boore_atkinson_sigma_of}
+use Rattle.boore_atkinson_theory.specs.Evaluation.{median_between_of as boore_atkinson_median_between_of}
+use Rattle.boore_atkinson_theory.specs.Evaluation.{sigma_between_of}
 use Rattle.engine_theory.specs.declared.Enclosure.{Enclosure}
 use Rattle.engine_theory.specs.declared.Doubles.{Doubles}
 use Rattle.engine_theory.specs.declared.Answer.{Answer}

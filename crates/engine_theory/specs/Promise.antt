@@ -1,6 +1,7 @@
 -- What is promised of an answer, whatever the engine computes: demand 3, from fields and from a record, in whole
 -- numbers and in doubles.
-use Rattle.std.specs.Prelude.{◌≡◌, true, false, List, [], ◌∷◌, ◌⊎◌, ℕ, suc, ◌≤◌, ℤ, pos, negsuc, ◌+ℤ◌, take, drop, ◌≤ℤ◌, Float}
+use Rattle.std.specs.Prelude.{◌≡◌, true, false, List, [], ◌∷◌, ◌⊎◌, ℕ, suc, ◌≤◌, ℤ, pos, negsuc, ◌+ℤ◌, take, drop, ◌≤ℤ◌}
+use Rattle.std.specs.Prelude.{Float}
 use Rattle.std.specs.Float.Ieee.Exact.{HasValue}
 use Rattle.exact_theory.specs.Formula.{Formula, ends, Encloses}
 use Rattle.scenario_theory.specs.declared.Scenario.{Scenario}

@@ -146,7 +146,8 @@ module _ (count : ℕ) (xs : List Scenario) (sheet : FlatSheet) (p : SheetPromis
     outdone : (i : ℕ) → Accepted sheet i → (Marked screening i → ⊥) →
         (j : ℕ) × Marked screening j × Outdone xs sheet i j
     outdone i a m =
-        let below : high_at sheet i <ℤ low_at sheet q = rw here at (above _ _ (λ h. m (marked i ((by_greatest (q, low, here) i a).0 h)))) in
+        let below : high_at sheet i <ℤ low_at sheet q =
+        rw here at (above _ _ (λ h. m (marked i ((by_greatest (q, low, here) i a).0 h)))) in
         let l = less (low_at sheet i) (high_at sheet q) below in (
           q,
           marked q (low.accepted, λ j b. ≤ℤ_trans _ (low.greatest j b) (ordered d q low.accepted)),

@@ -60,7 +60,12 @@ plain (some x) = inr refl
 -- so the fields of a scenario are those of that scenario
 fields_back : (x : Scenario) → scenario_from (fields_of x) ≡ x
 fields_back x =
-    rw (flag_back (rupture_number x.rupture), flag_back (projection_number x.projection), rupture_of_lem, projection_of_lem)
+    rw (
+      flag_back (rupture_number x.rupture),
+      flag_back (projection_number x.projection),
+      rupture_of_lem,
+      projection_of_lem,
+    )
     refl
 
 -- every reading of which the contract says `r ≡ ..` keeps the promise

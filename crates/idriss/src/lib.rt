@@ -10,8 +10,10 @@ ghost use Rattle.scenario_theory.specs.Rows.{row_count};
 ghost use Rattle.idriss_theory.specs.Rows.{row_at, RowLimits};
 ghost use Rattle.idriss_theory.specs.Median.{F};
 ghost use Rattle.idriss_theory.specs.Promise.{MedianDomain, MedianEnds};
-ghost use Rattle.idriss_theory.specs.Evaluation.{AlphaDomain, alpha_sum, gains_of, losses_of, distance_ln_of, vs30_ln_of};
-ghost use Rattle.idriss_theory.specs.Evaluation.{distance_term_of, site_term_of, median_pair_by, median_pair_of, median_of};
+ghost use Rattle.idriss_theory.specs.Evaluation.{AlphaDomain, alpha_sum, gains_of, losses_of, distance_ln_of};
+ghost use Rattle.idriss_theory.specs.Evaluation.{vs30_ln_of};
+ghost use Rattle.idriss_theory.specs.Evaluation.{distance_term_of, site_term_of, median_pair_by, median_pair_of};
+ghost use Rattle.idriss_theory.specs.Evaluation.{median_of};
 ghost use Rattle.idriss_theory.specs.Sizes.{alpha_most, exact_most, distance_term_most, site_term_most};
 
 use idriss_tables as table;

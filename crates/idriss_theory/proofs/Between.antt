@@ -42,7 +42,8 @@ module _ (is_table3 : Bool) {k m d v : ℕ} (mechanism : ℕ) (h : MedianDomain 
   between_takes =
       rw at.is
       (step_takes next (pair k) (pair (k + 1)) (median_pair_of_sized is_table3 mechanism first)
-      (median_pair_of_sized is_table3 mechanism h) row_step (rows_near is_table3 k mechanism h) (omega arith) (omega arith)
+      (median_pair_of_sized is_table3 mechanism h) row_step (rows_near is_table3 k mechanism h) (omega arith)
+      (omega arith)
       (omega arith))
 
   pub median_between_of_promise :

@@ -67,6 +67,7 @@ unfolding distance_term_of
 distance_sized l low high s =
     at_most (multiple 40_000_000 (beta_bounds l low high).small (given s)) (size 5 distance_term_most) tt
 
-pub site_sized : {r : Row} {e : Ends} → RowLimits r → Sized e ln_width ln_most → Sized (site_term_of r e) 4 site_term_most
+pub site_sized : {r : Row} {e : Ends} → RowLimits r → Sized e ln_width ln_most →
+    Sized (site_term_of r e) 4 site_term_most
 unfolding site_term_of
 site_sized l s = at_most (multiple 30_000_000 (omega arith) (given s)) (size 4 site_term_most) tt

@@ -50,7 +50,8 @@ module _ (is_table3 : Bool) {k m d v : ℕ} (mechanism : ℕ) (h : MedianDomain 
   pair = median_pair_of r m d v mechanism
 
   pub median_pair_of_at_points : PairAtPoints (median r m d v mechanism) pair
-  unfolding median Sound value alpha_part beta_factor median_pair_by gains_of losses_of alpha_sum beta_of distance_term_of
+  unfolding median Sound value alpha_part beta_factor median_pair_by gains_of losses_of alpha_sum beta_of
+      distance_term_of
       site_term_of sum_of ◌-q◌ up down
   median_pair_of_at_points =
       let f = far_domain h.near in
@@ -109,7 +110,8 @@ module _ (is_table3 : Bool) {k m d v : ℕ} (mechanism : ℕ) (h : MedianDomain 
   median_of_at_points = at_ends pair median_pair_of_at_points
 
   -- the promise
-  pub median_of_promise : MedianEnds (row_at is_table3 k) m d v mechanism (median_of (row_at is_table3 k) m d v mechanism)
+  pub median_of_promise : MedianEnds (row_at is_table3 k) m d v mechanism
+      (median_of (row_at is_table3 k) m d v mechanism)
   unfolding median_of
   median_of_promise = record {
     encloses = encloses median_of_at_points;

@@ -27,7 +27,8 @@ use Rattle.idriss_theory.specs.declared.Row as code
 use Rattle.idriss_theory.specs.Tables.{Row, no_row}
 use Rattle.idriss_theory.specs.Rows.{row_at, parts}
 use Rattle.idriss_theory.specs.Promise.{MedianDomain}
-use Rattle.idriss_theory.specs.Evaluation.{alpha_sum, beta_of, gains_of, losses_of, vs30_cap, distance_ln_of, vs30_ln_of}
+use Rattle.idriss_theory.specs.Evaluation.{alpha_sum, beta_of, gains_of, losses_of, vs30_cap, distance_ln_of}
+use Rattle.idriss_theory.specs.Evaluation.{vs30_ln_of}
 use Rattle.idriss_theory.specs.Evaluation.{distance_term_of, site_term_of, median_pair_by, median_pair_of, median_of}
 use Rattle.idriss_theory.specs.Ranges.{median_least, median_most, row_step, MedianRanges, RowsNear}
 use Rattle.idriss_theory.proofs.Rows.{row_limits}
@@ -177,7 +178,8 @@ steps is_table3 k = apart row_step row_step (row_at is_table3 k) (row_at is_tabl
 
 all_rows : (is_table3 : Bool) →
     T (all_below row_count (ranges is_table3)) × T (all_below (row_count - 1) (steps is_table3))
-unfolding all_below row_at up down ◌over◌ above under alpha ln_of scaled_of scaled_ln_of mantissa_ln_of near_one_of coarse_at
+unfolding all_below row_at up down ◌over◌ above under alpha ln_of scaled_of scaled_ln_of mantissa_ln_of near_one_of
+    coarse_at
     fine_at count_leading_zeros
 all_rows true = (tt, tt)
 all_rows false = (tt, tt)
@@ -205,7 +207,8 @@ module _ (is_table3 : Bool) {k m d v : ℕ} (mechanism : ℕ) (h : MedianDomain 
 
   -- the median by the row of zeros is 0
   pub median_pair_of_ranges : MedianRanges is_table3 k m d v mechanism
-  unfolding median_pair_by gains_of losses_of alpha_sum beta_of distance_term_of site_term_of multiple_of sum_of up down ◌over◌
+  unfolding median_pair_by gains_of losses_of alpha_sum beta_of distance_term_of site_term_of multiple_of sum_of up
+      down ◌over◌
   median_pair_of_ranges =
       let t = below row_count (ranges is_table3) (all_rows is_table3).0 k h.row in
       let p = near median_least median_most (row_at is_table3 k) no_row (beta_for k h.row) (omega arith) t in

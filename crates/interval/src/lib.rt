@@ -5,7 +5,8 @@
 ghost use Rattle.std.specs.Prelude.{◌≡◌, ◌^◌, ◌<◌};
 ghost use Rattle.interval_theory.specs.Natural.{MultipleDomain, ProductDomain, QuotientDomain, SumDomain, multiple_of};
 ghost use Rattle.interval_theory.specs.Natural.{product_of, quotient_of, sum_of, hull_of};
-ghost use Rattle.interval_theory.specs.Signed.{Moderate, TimesDomain, SmallerThan, plus_of, minus_of, times_of, between_of};
+ghost use Rattle.interval_theory.specs.Signed.{Moderate, TimesDomain, SmallerThan, plus_of, minus_of, times_of};
+ghost use Rattle.interval_theory.specs.Signed.{between_of};
 ghost use Rattle.interval_theory.specs.Signed.{ends_of, lesser, greater, signed_hull_of};
 
 use interval_theory::{Ends, SignedEnds, SignedPair};

@@ -1,6 +1,6 @@
 -- What is promised of the logarithm's and the root's ends, whatever the engine computes: the last clause of each
--- contract. proofs/Laws shows it of `ln_of` and `root_of`, which the first clause names; nobody has to read those two to
--- believe it.
+-- contract. proofs/Laws shows it of `ln_of` and `root_of`, which the first clause names; nobody has to read those two
+-- to believe it.
 use Rattle.std.specs.Prelude.{◌≡◌, ℕ, ◌+◌, ◌^◌, ◌≤◌, ◌<◌, pos}
 use Rattle.exact_theory.specs.Fraction.{Fraction, ◌over◌, ◌<q◌, ◌-q◌, ◌*q◌}
 use Rattle.exact_theory.specs.Pair.{Pair}

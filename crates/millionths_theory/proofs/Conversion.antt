@@ -31,7 +31,8 @@ use Rattle.millionths_theory.proofs.Order.{ln_encloses, apart}
 
 -- ln((most + 1)/10^6), which no median is above
 pub last : (ln_millionths (suc most)).low ≡ pos 2_126_874_594
-unfolding ln_millionths between_of ln_of scaled_ln_of scaled_of mantissa_ln_of near_one_of coarse_at fine_at count_leading_zeros
+unfolding ln_millionths between_of ln_of scaled_ln_of scaled_of mantissa_ln_of near_one_of
+    coarse_at fine_at count_leading_zeros
 last = refl
 
 -- ---- the two searches

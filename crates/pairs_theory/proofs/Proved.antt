@@ -6,7 +6,8 @@ use lib.Dec.{T}
 use Rattle.toolbox_theory.specs.Whole.{up}
 use Rattle.toolbox_theory.specs.Lists.{filter, greatest, least}
 use Rattle.toolbox_theory.proofs.Tests.{every, every_at}
-use Rattle.exact_theory.specs.Fraction.{◌over◌, le_q, zero_q, neg_q, ◌+q◌, ◌*q◌, ◌/q◌, flip, recip_q, min_q, max_q, ◌-q◌}
+use Rattle.exact_theory.specs.Fraction.{◌over◌, le_q, zero_q, neg_q, ◌+q◌, ◌*q◌, ◌/q◌, flip, recip_q, min_q, max_q}
+use Rattle.exact_theory.specs.Fraction.{◌-q◌}
 use Rattle.exact_theory.specs.Pair.{exactly, ◌+p◌, ◌*p◌, ◌/p◌, span4, hull, reaches_up_to, reaches_above, branch, ◌-p◌}
 use Rattle.exact_theory.specs.Logarithm.{harmonic, lower_sum, upper_sum, ln_pair}
 use Rattle.exact_theory.specs.Formula.{ln_q, eval}
@@ -29,8 +30,10 @@ use Rattle.pairs_theory.specs.Pairs.{pairs}
 first_passes : T (passes (get_or pairs 0 (fraction zero_q zero_q)))
 unfolding passes cut_to sound median sigma between neighbour_below neighbour_above filter greatest least idriss_median
     idriss_sigma second_sigma row_in second_row_for total_for takes_table3 bnl
-    site.nonlinear_part site.low_part site.transition site.high_part site.c site.d site.Δx site.Δy alpha_part beta_factor
-    F eval ln_q up ln_pair lower_sum upper_sum harmonic exactly ◌+p◌ ◌-p◌ ◌*p◌ ◌/p◌ span4 hull reaches_up_to reaches_above
+    site.nonlinear_part site.low_part site.transition site.high_part site.c site.d site.Δx site.Δy alpha_part
+    beta_factor
+    F eval ln_q up ln_pair lower_sum upper_sum harmonic exactly ◌+p◌ ◌-p◌ ◌*p◌ ◌/p◌ span4 hull reaches_up_to
+    reaches_above
     branch min_q max_q le_q zero_q neg_q ◌+q◌ ◌-q◌ ◌*q◌ ◌/q◌ flip recip_q ◌over◌
 first_passes = tt
 

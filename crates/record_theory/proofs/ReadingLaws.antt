@@ -76,13 +76,15 @@ module _ (s : List ℕ) where
     numbers : field_refusal (map_in s) (scenario_in s) ≡ read_refusal s
     numbers = rw front at (in_two s)
 
-    fields : based_reading (scenario_in s) (length_by (map_in s)) (field_check (map_in s) (scenario_in s)) ≡ based_reading_of s
+    fields : based_reading (scenario_in s) (length_by (map_in s)) (field_check (map_in s) (scenario_in s)) ≡
+        based_reading_of s
     unfolding field_check based_reading_of
     fields =
         let x = scenario_in s in
         rw (← numbers) (of_unless (based_reading x (length_by (map_in s))) (field_refusal (map_in s) x) (basis_of x) _)
 
-    pub refused_fields : {k : ℕ} → field_check (map_in s) (scenario_in s) ≡ K.Refused k → T.Refused k ≡ based_reading_of s
+    pub refused_fields : {k : ℕ} → field_check (map_in s) (scenario_in s) ≡ K.Refused k →
+        T.Refused k ≡ based_reading_of s
     refused_fields e = rw e at fields
 
     pub is_read : {b : Basis} → field_check (map_in s) (scenario_in s) ≡ K.Accepted b →
@@ -109,7 +111,8 @@ module _ (s : List ℕ) where
     values = of_unless reading_values (read_refusal s) _ _;
   }
 
-  pub read_of_lem : {t : BasedReading} → based_reading_of s ≡ t → (reading_in t ≡ read_of s) × ReadPromise s (reading_in t)
+  pub read_of_lem : {t : BasedReading} → based_reading_of s ≡ t → (reading_in t ≡ read_of s) ×
+      ReadPromise s (reading_in t)
   read_of_lem e = let f = ap reading_in (sym e) ∙ forgotten in (f, rw f read_promise)
 
 -- ---- what an answer says

@@ -24,7 +24,8 @@ module _ (x : Scenario) where
 
   pub middle_stores : {l l1 l2 l3 : List ℕ} {a b c : ℕ} → Put 4 (part_of 2 (rupture_number x.rupture)) l a l1 →
       Put a (part_of 2 (x.velocity unless absent_velocity)) l1 b l2 →
-      Put b (part_of 1 (x.mechanism unless absent_mechanism)) l2 c l3 → Put 4 (parts_of (take 3 (drop 2 layout)) x) l c l3
+      Put b (part_of 1 (x.mechanism unless absent_mechanism)) l2 c l3 →
+      Put 4 (parts_of (take 3 (drop 2 layout)) x) l c l3
   unfolding parts_of
   middle_stores p q r = simp append-nil (put_then p (put_then q r))
 
@@ -49,7 +50,8 @@ module _ (x : Scenario) where
 
   -- its parts are one after the other
   all_parts : (m : ℕ) → m ≡ map_of layout x →
-      (m ∷ parts_of (take 2 layout) x) ++ (parts_of (take 3 (drop 2 layout)) x ++ parts_of (drop 5 layout) x) ≡ record_of x
+      (m ∷ parts_of (take 2 layout) x) ++ (parts_of (take 3 (drop 2 layout)) x ++ parts_of (drop 5 layout) x) ≡
+      record_of x
   unfolding record_of parts_of
   all_parts m e = rw e (simp append_assoc refl)
 

@@ -5,7 +5,8 @@ ghost use Rattle.std.specs.Prelude.{◌≡◌, ◌+◌, ◌≤◌, length};
 ghost use Rattle.stores_theory.specs.Stores.{Put};
 ghost use Rattle.engine_theory.specs.declared.Answer.TheVariants.{Enclosed, Refused};
 ghost use Rattle.report_theory.specs.Lines.{line_of, length_on, bytes_after};
-ghost use Rattle.report_theory.specs.Steps.{Counted, word_of, words_for, sign_bytes, word_bytes, both_bytes, head_bytes};
+ghost use Rattle.report_theory.specs.Steps.{Counted, word_of, words_for, sign_bytes, word_bytes, both_bytes};
+ghost use Rattle.report_theory.specs.Steps.{head_bytes};
 
 use decimal::{decimal_length, put_decimal};
 use engine_theory::{Answer, Enclosure};

@@ -82,7 +82,8 @@ pub boore_atkinson_in_table : (t : ℕ) → Tabled (boore_atkinson_place t)
 unfolding boore_atkinson_place
 boore_atkinson_in_table t = in_table 1 boore_atkinson boore_atkinson_row boore_atkinson_listed boore_atkinson_row_lem t
 
-pub idriss_periods_lem : (t : ℕ) → periods_found idriss.periods (idriss_place t) ≡ row_periods_by idriss idriss_printed t
+pub idriss_periods_lem : (t : ℕ) →
+    periods_found idriss.periods (idriss_place t) ≡ row_periods_by idriss idriss_printed t
 unfolding idriss_place
 idriss_periods_lem t =
     periods_by_row 0 idriss idriss_row idriss_listed idriss_row_lem t idriss_printed idriss.periods idriss_printed_lem

@@ -224,7 +224,8 @@ module _ (m : Limits) (row : ℕ → ℕ) (t : ℕ) where
       go true p e = (p, cc)
       go false p e = let z : ◌≡◌ {A = ℕ} 0 1 = cc in absurd (omega arith)
 
-  pub between_of_lem : {k : ℕ} → place_by m row t ≡ P.Between k → (has_row m t ≡ false) × (k ≡ row (neighbour_below m t))
+  pub between_of_lem : {k : ℕ} → place_by m row t ≡ P.Between k → (has_row m t ≡ false) ×
+      (k ≡ row (neighbour_below m t))
   between_of_lem = go (has_row m t) refl
     where
       go : (b : Bool) {k : ℕ} → has_row m t ≡ b →
@@ -249,7 +250,8 @@ by_idriss k =
 
 by_idriss_lem : (k : ℕ) → k < row_count → get_or (0 ∷ boore_atkinson.periods) k 0 ≡ by_idriss k
 unfolding all_below
-by_idriss_lem k h = eqb→eq _ _ (below row_count (λ k. eqb (get_or (0 ∷ boore_atkinson.periods) k 0) (by_idriss k)) tt k h)
+by_idriss_lem k h =
+    eqb→eq _ _ (below row_count (λ k. eqb (get_or (0 ∷ boore_atkinson.periods) k 0) (by_idriss k)) tt k h)
 
 module _ {k : ℕ} (some : k ≡ 0 → ⊥) where
   pub period_up_to_30 : k < 4 → get_or idriss.periods (k - 1) 0 ≡ get_or (0 ∷ boore_atkinson.periods) k 0
@@ -273,4 +275,5 @@ pub boore_atkinson_printed : (t : ℕ) → has_row boore_atkinson t ≡ true →
 unfolding boore_atkinson_row
 boore_atkinson_printed t e =
     eqb→eq _ _
-    (all_at (λ t. eqb (get_or (0 ∷ boore_atkinson.periods) (boore_atkinson_row t) 0) t) (0 ∷ boore_atkinson.periods) t tt e)
+    (all_at (λ t. eqb (get_or (0 ∷ boore_atkinson.periods) (boore_atkinson_row t) 0) t)
+    (0 ∷ boore_atkinson.periods) t tt e)

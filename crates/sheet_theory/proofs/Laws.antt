@@ -76,7 +76,8 @@ promised count xs long =
     }
 
 -- every sheet of which a contract says `r ≡ sheet_of ..` keeps it
-pub sheet_promised : (count : ℕ) (xs : List Scenario) → length xs ≡ sheet_most → {r : FlatSheet} → r ≡ sheet_of count xs →
+pub sheet_promised : (count : ℕ) (xs : List Scenario) → length xs ≡ sheet_most → {r : FlatSheet} →
+    r ≡ sheet_of count xs →
     (r ≡ sheet_of count xs) × SheetPromise count xs r
 sheet_promised count xs long e = (e, rw e (promised count xs long))
 

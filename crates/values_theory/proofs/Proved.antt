@@ -16,7 +16,8 @@ use Rattle.exact_theory.proofs.DefinedTest.{sound, defined}
 use Rattle.scenario_theory.specs.Refusal.{beyond_periods, refusal_by, refusal_by_model, lacks_distance}
 use Rattle.scenario_theory.specs.Refusal.{projection_exceeds, refusal_of}
 use Rattle.record_theory.specs.Layout.{size_of, numbers_of, absent_written}
-use Rattle.record_theory.specs.Outcome.{reading_number, reading_values, scenario_in, length_by, map_refusal, read_refusal}
+use Rattle.record_theory.specs.Outcome.{reading_number, reading_values, scenario_in, length_by, map_refusal}
+use Rattle.record_theory.specs.Outcome.{read_refusal}
 use Rattle.record_theory.specs.Outcome.{read_of}
 use Rattle.idriss_theory.specs.Tables.{takes_table3, row_in}
 use Rattle.idriss_theory.specs.Median.{alpha_part, beta_factor}
@@ -97,7 +98,8 @@ all_pass : T (every (λ k c. passes c) 0 values)
 unfolding passes matches constant ln_constant when merged zero_over positive row_in second_row_for takes_table3 bnl
     alpha_part beta_factor ◌-q◌ ◌*q◌ sound same same_value same_list eval ln_pair lower_sum upper_sum harmonic root_pair
     root_values whole_root greatest le_q zero_q neg_q ◌+q◌ ◌over◌ read_of read_refusal map_refusal scenario_in length_by
-    numbers_of size_of absent_written refusal_of lacks_distance projection_exceeds refusal_by_model refusal_by beyond_periods
+    numbers_of size_of absent_written refusal_of lacks_distance projection_exceeds refusal_by_model refusal_by
+    beyond_periods
 all_pass = tt
 
 pub all_hold : AllHold values

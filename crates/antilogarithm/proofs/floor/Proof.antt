@@ -62,7 +62,8 @@ floor_spec =
     (tie.spec
     invariant_loop decreases_loop
     (λ c. (sought _ most, sym last))
-    (λ c. omega (arith, c.loop-high.invariant.0)) (λ c. record { fits = omega (arith, c.loop-high.invariant.0) }) (λ c κs. tt)
+    (λ c. omega (arith, c.loop-high.invariant.0)) (λ c. record { fits = omega (arith, c.loop-high.invariant.0) })
+    (λ c κs. tt)
     (λ c. omega (arith, c.loop-high.invariant.0)) (λ c κs. tt)
     (λ c κs. omega (arith, between c, c.loop-high.invariant.0))
     (λ c. omega (arith, between c.before.before.before.before))

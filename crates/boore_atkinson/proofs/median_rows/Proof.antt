@@ -25,7 +25,8 @@ pub median_rows_spec : {M : Type 1} → statement M
 median_rows_spec =
     tie.close
     (tie.spec
-    invariant_loop decreases_loop (λ c κs. search rules) (λ c κs. search rules) (λ c κs. search rules) (λ c κs. search rules)
+    invariant_loop decreases_loop (λ c κs. search rules) (λ c κs. search rules) (λ c κs. search rules)
+    (λ c κs. search rules)
     (λ c. (none_passed _ _ c.no_pair-lower.ensures c.no_pair-upper.ensures, omega arith))
     takes (λ c. search rules) (λ c. omega arith)
     (λ c.

@@ -6,4 +6,5 @@ use Rattle.boore_atkinson_sigma.proofs.total.Tie as tie
 
 pub total_spec : {M : Type 1} → statement M
 total_spec =
-    tie.close (tie.spec (λ c. simp (eq-eqb _ _ c.if-mechanism-eq9.true) refl) (λ c. simp (ne_eqb _ _ c.if-mechanism-eq9.false) refl))
+    tie.close (tie.spec (λ c. simp (eq-eqb _ _ c.if-mechanism-eq9.true) refl)
+    (λ c. simp (ne_eqb _ _ c.if-mechanism-eq9.false) refl))

@@ -41,5 +41,6 @@ unfolding up down ◌over◌
 magnitude_at_spec =
     tie.close
     (tie.spec
-    invariant_loop decreases_loop (λ c κs. tt) (λ c. search rules) (λ c. first _ c.table_7-t.result _) (λ c. search rules)
+    invariant_loop decreases_loop (λ c κs. tt) (λ c. search rules) (λ c. first _ c.table_7-t.result _)
+    (λ c. search rules)
     (λ c. search rules) (λ c. search rules) (λ c. omega arith) again returns)

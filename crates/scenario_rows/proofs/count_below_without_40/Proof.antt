@@ -19,5 +19,6 @@ same {T} h = rw (le-ltb 40 T h) at (count_without_40 T)
 pub count_below_without_40_spec : {M : Type 1} → statement M
 count_below_without_40_spec =
     tie.close
-    (tie.spec (λ c κs. tt) (λ c. omega (arith, more c.if-period-gt40.true)) (λ c. omega (arith, more c.if-period-gt40.true))
+    (tie.spec (λ c κs. tt) (λ c. omega (arith, more c.if-period-gt40.true))
+    (λ c. omega (arith, more c.if-period-gt40.true))
     (λ c. omega (arith, same c.if-period-gt40.false)))

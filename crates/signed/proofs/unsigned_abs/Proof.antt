@@ -30,13 +30,21 @@ unsigned_abs_spec =
     tie.close
     (tie.spec
     (λ c. let h = minus c.args.z c.ranges.z (search rules) in rw h.read (is_i64 _ (plus_one h.n h.small)))
-    (λ c. let h = minus c.args.z c.ranges.z (search rules) in rw (h.read, negated h.n h.small) (record { sfits = h.small }))
-    (λ c. let h = minus c.args.z c.ranges.z (search rules) in rw (h.read, negated h.n h.small, back (pos h.n) h.small) (tt, omega arith))
-    (λ c. let h = minus c.args.z c.ranges.z (search rules) in rw (h.read, negated h.n h.small, back (pos h.n) h.small) (omega arith))
-    (λ c. let h = minus c.args.z c.ranges.z (search rules) in rw (h.read, negated h.n h.small, back (pos h.n) h.small) (omega arith))
+    (λ c. let h = minus c.args.z c.ranges.z (search rules) in
+    rw (h.read, negated h.n h.small) (record { sfits = h.small }))
+    (λ c. let h = minus c.args.z c.ranges.z (search rules) in
+    rw (h.read, negated h.n h.small, back (pos h.n) h.small) (tt, omega arith))
+    (λ c. let h = minus c.args.z c.ranges.z (search rules) in
+    rw (h.read, negated h.n h.small, back (pos h.n) h.small) (omega arith))
+    (λ c. let h = minus c.args.z c.ranges.z (search rules) in
+    rw (h.read, negated h.n h.small, back (pos h.n) h.small) (omega arith))
     (λ c.
     let z = c.args.z in
     let f = c.ranges.z in
     let t : lt_z (to_z w64 (of_z w64 z)) (pos 0) ≡ false = search rules in
-    rw (to_z-of_z w64 z f) (yes_non_neg {z = z} (lt_z_no (rw (rw (to_z-of_z w64 z f) at t) tt)), omega (arith, nat_abs-le z f.sfits)))
+    rw (to_z-of_z w64 z f) (
+      yes_non_neg {z =
+          z} (lt_z_no (rw (rw (to_z-of_z w64 z f) at t) tt)),
+      omega (arith, nat_abs-le z f.sfits),
+    ))
     (λ c. search rules))
