@@ -1,5 +1,5 @@
 #!/usr/bin/env python3
-"""tools/contracts and tools/edits on copies in which one thing has been made wrong.
+"""tools/contracts and tools/edits on copies in which one thing is wrong, and tools/verdict.
 
 Run as: python3 tests/test_contracts.py
 
@@ -324,6 +324,12 @@ EDITS = (
     (GOOD.replace('x + 3\n', 'x + 3\r\n'), 6, 'a carriage return'),
 )
 
+# The line that rt ci ends its own account with, and whether tools/verdict takes it.
+ACCOUNT = 'rt: ok; handles allowed: none; must-fail edits: '
+VERDICTS = ((ACCOUNT + '272 refused', 0), (ACCOUNT + '272 refused, 0 bad; all in this run', 0),
+            (ACCOUNT + '271 refused, 1 bad', 1), (ACCOUNT + '262 refused, 10 bad; all here', 1),
+            ('rt: f is not proved', 1), ('', 1))
+
 
 def run(tool, root, *words):
     """Return the status of a tool on a copy, and all that it printed."""
@@ -347,7 +353,7 @@ def copy(room):
     shutil.rmtree(root, ignore_errors=True)
     for folder in ('crates', 'docs'):
         shutil.copytree(os.path.join(ROOT, folder), os.path.join(root, folder),
-                        ignore=shutil.ignore_patterns('target', 'must-fail', 'Proof.antt'))
+                        ignore=shutil.ignore_patterns('out', 'must-fail', 'Proof.antt'))
     shutil.copy(os.path.join(ROOT, 'crates.txt'), root)
     return root
 
@@ -387,13 +393,25 @@ def edit_faults(room):
     return faults + faults_of('a stray file', *run('edits', root), [f'{stray}:1: no edit'])
 
 
+def verdict_faults(room):
+    """Return what is wrong with tools/verdict."""
+    path, faults = os.path.join(room, 'verdict'), []
+    for line, due in VERDICTS:
+        write(room, 'verdict', f'rt: a line before\n{line}\n1 passed, 0 failed\n')
+        status = subprocess.run([os.path.join(ROOT, 'tools', 'verdict'), path],
+                                stderr=subprocess.DEVNULL, check=False).returncode
+        if status != due:
+            faults.append(f'verdict: {line!r} gives {status}, not {due}')
+    return faults
+
+
 def main():
     """Try all cases."""
     with tempfile.TemporaryDirectory() as room:
-        faults = contract_faults(room) + edit_faults(room)
+        faults = contract_faults(room) + edit_faults(room) + verdict_faults(room)
     for fault in faults:
         print('wrong:', fault)
-    print(f'contracts: {len(CASES)} wrong copies and {len(EDITS)} wrong edits tried, '
+    print(f'contracts: {len(CASES)} wrong copies, {len(EDITS)} wrong edits and {len(VERDICTS)} verdicts tried, '
           f'{len(faults)} wrong')
     sys.exit(1 if faults else 0)
 
