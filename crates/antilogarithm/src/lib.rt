@@ -6,7 +6,7 @@ ghost use Rattle.millionths_theory.specs.Promise.{FromEnds};
 ghost use Rattle.millionths_theory.specs.Evaluation.{ln_millionths, most, floor_of, ceiling_after, millionths_from};
 
 use interval::between;
-use interval_theory::SignedEnds;
+use interval_theory::Ends;
 use logarithm::ln;
 use millionths_theory::Floor;
 pub use millionths_theory::Millionths;
@@ -14,7 +14,7 @@ use order::{max, min};
 use signed::unsigned_abs;
 
 // ln(k/10^6).
-fn ln_millionths(k: u64) -> SignedEnds
+fn ln_millionths(k: u64) -> Ends<i64>
     requires { (1 ≤ k) × (k ≤ suc most) }
     ensures { result ≡ ln_millionths k }
 {
@@ -102,7 +102,7 @@ fn near(z: i64) -> u64 {
 
 // Two whole numbers of millionths, of any ends of a logarithm: what these enclose lies between the numbers if they are
 // at most 4,000 units apart and not above 2.1.
-pub fn from_ends(e: SignedEnds) -> Millionths
+pub fn from_ends(e: Ends<i64>) -> Millionths
     ensures value { result ≡ millionths_from e }
     ensures from_ends { FromEnds e result }
 {

@@ -15,13 +15,13 @@ use boore_atkinson_site as site;
 use boore_atkinson_tables as table;
 use interpolation_theory::TwoRows;
 use interval::{ends, plus};
-use interval_theory::{Ends, SignedEnds, SignedPair};
+use interval_theory::{Ends, SignedPair};
 use period_step::no_pair;
 use scenario_theory::ProjectionDistance;
 
 // What the nonlinear part has over the slope, which all rows have in common: from 760 m/s on the slope is 0, p has no
 // part in it, and 0 stands for it.
-fn curve_for(v: u64, m: u64, d: ProjectionDistance, mechanism: u8) -> Ends
+fn curve_for(v: u64, m: u64, d: ProjectionDistance, mechanism: u8) -> Ends<u64>
     requires { (500 ≤ m) × (m ≤ 800) × (d.0 ≤ 19_999) }
     ensures { (result ≡ curve_for v m d.0 mechanism) × Sized result curve_most curve_most }
 {
@@ -38,8 +38,8 @@ fn median_by_row(
     m: u64,
     d: ProjectionDistance,
     v: u64,
-    l: Ends,
-    q: Ends,
+    l: Ends<u64>,
+    q: Ends<u64>,
     mechanism: u8,
 ) -> SignedPair
     requires median_domain { MedianDomain k m d.0 v × (l ≡ vs30_ln_of v) }
@@ -62,7 +62,7 @@ pub fn median(
     projection_distance: ProjectionDistance,
     vs30: u16,
     mechanism: u8,
-) -> SignedEnds
+) -> Ends<i64>
     requires { MedianDomain k magnitude projection_distance.0 vs30 }
     ensures value { result ≡ median_of (row_at k) magnitude projection_distance.0 vs30 mechanism }
     ensures median_ends { MedianEnds (row_at k) magnitude projection_distance.0 vs30 mechanism result }
@@ -104,7 +104,7 @@ pub fn median_rows(
 }
 
 // The nonlinear part by row k, where −p lies in b.
-pub fn nonlinear(k: usize, vs30: u16, b: Ends) -> SignedEnds
+pub fn nonlinear(k: usize, vs30: u16, b: Ends<u64>) -> Ends<i64>
     requires { NonlinearDomain k vs30 b }
     ensures value { result ≡ nonlinear_ends_of (row_at k).site vs30 b }
     ensures nonlinear_ends { NonlinearEnds (row_at k).site vs30 b result }

@@ -41,7 +41,7 @@ fn spread(r: DistanceRow, m: u64) -> u64
 }
 
 // −(c1 + c2 (M − Mref)) ln R − c3 R.
-fn fall(r: DistanceRow, m: u64, s: EffectiveDistance) -> Ends
+fn fall(r: DistanceRow, m: u64, s: EffectiveDistance) -> Ends<u64>
     requires { DistanceLimits r × (500 ≤ m) × (m ≤ 800) × EffectiveSized s }
     ensures { (result ≡ fall_of r m s) × Sized result 4 12_700_000_000 }
 {
@@ -123,7 +123,7 @@ pub fn rock(
 }
 
 // −p, p the logarithm of the rock acceleration.
-pub fn minus_p(m: u64, projection_distance: ProjectionDistance, mechanism: u8) -> Ends
+pub fn minus_p(m: u64, projection_distance: ProjectionDistance, mechanism: u8) -> Ends<u64>
     requires { (500 ≤ m) × (m ≤ 800) × (projection_distance.0 ≤ 19_999) }
     ensures { (result ≡ minus_p_of m projection_distance.0 mechanism) × Sized result 4 rock_most }
 {

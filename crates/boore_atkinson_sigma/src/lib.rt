@@ -12,7 +12,7 @@ use boore_atkinson_tables as table;
 use boore_atkinson_theory::TotalRow;
 use interpolation_theory::TwoRows;
 use interval::between;
-use interval_theory::{Ends, SignedEnds, SignedPair};
+use interval_theory::{Ends, SignedPair};
 
 // The total for a fault type that is unspecified, code 9, or specified.
 fn total(t: TotalRow, mechanism: u8) -> u32
@@ -33,7 +33,7 @@ fn sigma_by_row(k: usize, mechanism: u8) -> u64
 }
 
 // Sigma by row k.
-pub fn sigma(k: usize, mechanism: u8) -> SignedEnds
+pub fn sigma(k: usize, mechanism: u8) -> Ends<i64>
     requires { k < row_count }
     ensures value { result ≡ sigma_of (total_at k) mechanism }
     ensures sigma_ends { SigmaEnds (total_at k) mechanism result }

@@ -19,39 +19,39 @@ use interval_theory::{Ends, SignedPair};
 use order::{max, min};
 
 // ln(0.1/0.06), 1/ln(300/180), 1/ln(760/300), and c and d over the slope.
-const MINUS_LN_LOW: Ends = Ends {
+const MINUS_LN_LOW: Ends<u64> = Ends {
     low: 510_825_623,
     high: 510_825_624,
 };
 
-const OVER_SLOW: Ends = Ends {
+const OVER_SLOW: Ends<u64> = Ends {
     low: 1_957_615_188,
     high: 1_957_615_192,
 };
 
-const OVER_FAST: Ends = Ends {
+const OVER_FAST: Ends<u64> = Ends {
     low: 1_075_805_610,
     high: 1_075_805_612,
 };
 
-const C_OVER: Ends = Ends {
+const C_OVER: Ends<u64> = Ends {
     low: 97_587_419,
     high: 97_587_424,
 };
 
-const D_OVER: Ends = Ends {
+const D_OVER: Ends<u64> = Ends {
     low: 216_959_882,
     high: 216_959_886,
 };
 
-fn exact(n: u64) -> Ends
+fn exact(n: u64) -> Ends<u64>
     ensures { result ≡ exactly n }
 {
     Ends { low: n, high: n }
 }
 
 // The absolute value of ln(V/760), which the linear part and the slope have in common.
-pub fn vs30_ln(v: u64) -> Ends
+pub fn vs30_ln(v: u64) -> Ends<u64>
     requires { (V1 ≤ v) × (v ≤ 13_000) }
     ensures { result ≡ vs30_ln_of v }
 {
@@ -62,7 +62,7 @@ pub fn vs30_ln(v: u64) -> Ends
 }
 
 // blin ln(V/760), where l is the absolute value of the logarithm.
-pub fn linear(s: SiteRow, v: u64, l: Ends) -> SignedPair
+pub fn linear(s: SiteRow, v: u64, l: Ends<u64>) -> SignedPair
     requires { SiteLimits s × (V1 ≤ v) × (v ≤ 13_000) × (l ≡ vs30_ln_of v) }
     ensures { (result ≡ linear_of s v) × SignedSized result 3 linear_most }
 {
@@ -80,7 +80,7 @@ pub fn linear(s: SiteRow, v: u64, l: Ends) -> SignedPair
 }
 
 // −bnl from 180 to 300 m/s.
-fn slow_slope(s: SiteRow, v: u64) -> Ends
+fn slow_slope(s: SiteRow, v: u64) -> Ends<u64>
     requires { SiteLimits s × (V1 ≤ v) × (v ≤ V2) }
     ensures { (result ≡ slow_slope_of s v) × Sized result 6 900_000_000 }
 {
@@ -93,7 +93,7 @@ fn slow_slope(s: SiteRow, v: u64) -> Ends
 }
 
 // −bnl from 300 to 760 m/s, where l is ln(760/V).
-fn fast_slope(s: SiteRow, v: u64, l: Ends) -> Ends
+fn fast_slope(s: SiteRow, v: u64, l: Ends<u64>) -> Ends<u64>
     requires { SiteLimits s × (V2 ≤ v) × (v < Vref) × (l ≡ vs30_ln_of v) }
     ensures { (result ≡ fast_slope_of s v) × Sized result 6 900_000_000 }
 {
@@ -102,7 +102,7 @@ fn fast_slope(s: SiteRow, v: u64, l: Ends) -> Ends
 }
 
 // −bnl, where l is the absolute value of ln(V/760).
-fn slope(s: SiteRow, v: u64, l: Ends) -> Ends
+fn slope(s: SiteRow, v: u64, l: Ends<u64>) -> Ends<u64>
     requires { SiteLimits s × (V1 ≤ v) × (l ≡ vs30_ln_of v) }
     ensures { (result ≡ slope_of s v) × Sized result 6 900_000_000 }
 {
@@ -119,7 +119,7 @@ fn slope(s: SiteRow, v: u64, l: Ends) -> Ends
 }
 
 // z = p − ln 0.03, where −p lies in b and p is above ln 0.03 and up to ln 0.09.
-fn transition_z(b: Ends) -> Ends
+fn transition_z(b: Ends<u64>) -> Ends<u64>
     requires { (b.low ≤ b.high) × (b.low < 3_506_557_898) × (2_407_945_608 ≤ b.high) }
     ensures { (result ≡ z_of b) × Sized result 1_098_612_290 1_098_612_290 }
 {
@@ -130,7 +130,7 @@ fn transition_z(b: Ends) -> Ends
 }
 
 // c z² + d z³ over the slope.
-fn cubic(z: Ends) -> Ends
+fn cubic(z: Ends<u64>) -> Ends<u64>
     requires { Sized z 1_098_612_290 1_098_612_290 }
     ensures { (result ≡ cubic_of z) × Sized result curve_most curve_most }
 {
@@ -139,7 +139,7 @@ fn cubic(z: Ends) -> Ends
 }
 
 // p − ln 0.1 − ln(0.06/0.1), where −p lies in b and p is above ln 0.09.
-fn straight(b: Ends) -> Ends
+fn straight(b: Ends<u64>) -> Ends<u64>
     requires { (b.low ≤ b.high) × (b.low < 2_407_945_609) }
     ensures { (result ≡ straight_of b) × Sized result curve_most curve_most }
 {
@@ -150,7 +150,7 @@ fn straight(b: Ends) -> Ends
 }
 
 // The branch or branches of p above ln 0.03.
-fn upper(b: Ends) -> Ends
+fn upper(b: Ends<u64>) -> Ends<u64>
     requires { (b.low ≤ b.high) × (b.low < 3_506_557_898) }
     ensures { (result ≡ branch_of b minus_ln_a2 (cubic_of (z_of b)) (straight_of b)) ×
         Sized result curve_most curve_most }
@@ -166,7 +166,7 @@ fn upper(b: Ends) -> Ends
 }
 
 // What the nonlinear part has beside bnl ln(0.06/0.1), over the slope: every branch that b reaches.
-pub fn curve(b: Ends) -> Ends
+pub fn curve(b: Ends<u64>) -> Ends<u64>
     requires { b.low ≤ b.high }
     ensures { (result ≡ curve_of b) × Sized result curve_most curve_most }
 {
@@ -182,7 +182,7 @@ pub fn curve(b: Ends) -> Ends
 
 // The nonlinear part, where l is the absolute value of ln(V/760), and q is what it has over the slope. From 760 m/s on
 // the slope is 0, and only the roundings are left.
-pub fn nonlinear_part(s: SiteRow, v: u64, l: Ends, q: Ends) -> SignedPair
+pub fn nonlinear_part(s: SiteRow, v: u64, l: Ends<u64>, q: Ends<u64>) -> SignedPair
     requires { SiteLimits s × (V1 ≤ v) × (l ≡ vs30_ln_of v) × Sized q curve_most curve_most }
     ensures { (result ≡ nonlinear_by s v q) × SignedSized result nonlinear_most nonlinear_most }
 {

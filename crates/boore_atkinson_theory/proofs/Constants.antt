@@ -1,5 +1,6 @@
 -- The constant pairs hold what they stand for: the logarithm computes the four logarithms and those that the others are
 -- made of, and each quotient is compared by a product.
+use Rattle.std.specs.Prelude.{ℕ}
 use mathlib.Core.Path.{◌≡◌, refl}
 use Prim.Native.Nat.{ℕ, ◌*◌, ◌/◌, ◌<◌}
 use native.Mathlib.Omega.{arith}
@@ -25,7 +26,7 @@ use Rattle.boore_atkinson_theory.specs.Constants.{c_over, d_over}
 use Rattle.boore_atkinson_theory.specs.Tables.{a1, pga_low, a2, Vref, V2, V1}
 use Rattle.boore_atkinson_theory.specs.Sizes.{vs30_most}
 
-abbrev pair : ℕ → ℕ → Ends
+abbrev pair : ℕ → ℕ → Ends ℕ
 pair low high = record { low = low; high = high }
 
 -- the quotients of Table 4's accelerations in Δx and Δy have no remainder
@@ -61,14 +62,14 @@ fast_limits = tt
 -- ---- what they hold
 
 module _ {σ : Points} (known : Known σ) where
-  at_computed : {a b : ℕ} {e : Ends} → LnDomain a b → ln_of a b ≡ e → Held (σ.ln_at a b) e
+  at_computed : {a b : ℕ} {e : Ends ℕ} → LnDomain a b → ln_of a b ≡ e → Held (σ.ln_at a b) e
   at_computed d same = rw (← same) (lies_natural _ _ (known.ln_within d))
 
   pub low_held : Held (σ.ln_at 10 6) minus_ln_low
   low_held = at_computed (omega arith) computed.low
 
   -- ln(a/b), a below b, is that of b/a, negated
-  turned : (a b : ℕ) {e : Ends} → a < b → Held (σ.ln_at b a) e → HeldBelow (σ.ln_at a b) e
+  turned : (a b : ℕ) {e : Ends ℕ} → a < b → Held (σ.ln_at b a) e → HeldBelow (σ.ln_at a b) e
   turned a b less h = rw (known.ln_negated less) (lies_negated h)
 
   pub first_below : HeldBelow (σ.ln_at 3 100) minus_ln_a1

@@ -1,4 +1,5 @@
 -- The nonlinear part is bnl times −ln(0.1/0.06) + θ, and θ lies where the evaluation has it, in whichever branch.
+use Rattle.std.specs.Prelude.{ℕ}
 use mathlib.Core.Path.{◌≡◌, refl}
 use mathlib.Core.Bool.{Bool, true, false, cond}
 use Prim.Native.Nat.{ℕ, ◌-◌, ◌≤◌, ◌<◌, min, max}
@@ -31,15 +32,15 @@ use Rattle.boore_atkinson_theory.proofs.Constants.{d_held}
 -- ---- which branches are reached
 
 -- −x lies in b and −y in t: where x is up to y, b reaches up to t; and where x is above y, b reaches below t
-reaches : {x y : Fraction} {b t : Ends} → HeldBelow x b → HeldBelow y t → x ≤q y → t.low ≤ b.high
+reaches : {x y : Fraction} {b t : Ends ℕ} → HeldBelow x b → HeldBelow y t → x ≤q y → t.low ≤ b.high
 reaches {b = b} {t} h k le =
     omega (arith, le_as (units-Is 0 b.high) (units-Is 0 t.low) (≤q_trans h.from (≤q_trans le k.to)))
 
-passes : {x y : Fraction} {b t : Ends} → HeldBelow x b → HeldBelow y t → y <q x → b.low < t.high
+passes : {x y : Fraction} {b t : Ends ℕ} → HeldBelow x b → HeldBelow y t → y <q x → b.low < t.high
 passes {b = b} {t} h k lt =
     omega (arith, lt_as (units-Is 0 t.high) (units-Is 0 b.low) (≤q-<q_trans k.from (<q-≤q_trans lt h.to)))
 
-module _ (b t : Ends) {θ : Fraction} (A B : Ends) where
+module _ (b t : Ends ℕ) {θ : Fraction} (A B : Ends ℕ) where
   branch_from : t.low ≤ b.high → Held θ A → Held θ (branch_of b t A B)
   unfolding branch_of
   branch_from h k =
@@ -81,7 +82,7 @@ extremes Q m n p q = elim (dec_le m n) [
 
 -- ---- θ in each branch
 
-module _ {σ : Points} (known : Known σ) {P : Fraction} {b : Ends} (h : HeldBelow P b) where
+module _ {σ : Points} (known : Known σ) {P : Fraction} {b : Ends ℕ} (h : HeldBelow P b) where
   -- above ln 0.03 and up to ln 0.09
   z_held : σ.ln_at 3 100 <q P → P ≤q σ.ln_at 9 100 → Held (P -q σ.ln_at 3 100) (z_of b)
   unfolding z_of
@@ -106,7 +107,7 @@ module _ {σ : Points} (known : Known σ) {P : Fraction} {b : Ends} (h : HeldBel
 -- ---- the nonlinear part is β (−κ + θ)
 
 -- n (k + θ) for θ between q's ends: β below zero, −β between n's ends
-product_lies : {β κ θ : Fraction} {n k q : Ends} → HeldBelow β n → Held κ k → Held θ q →
+product_lies : {β κ θ : Fraction} {n k q : Ends ℕ} → HeldBelow β n → Held κ k → Held θ q →
     LiesIn (β *q (neg_q κ +q θ)) (record { gain = product_of n k; loss = product_of n q })
 product_lies {β} {κ} {θ} h low curve =
     let ν = lies_negated h in
@@ -133,7 +134,7 @@ gathered β a c' d' u v ec ed =
     ≈q_trans (add_cong (≈q_refl (β *q a)) (≈q_trans (add_cong cu dv) (mul_add β (c' *q u) (d' *q v))))
     (mul_add β a (c' *q u +q d' *q v))
 
-module _ {σ : Points} (known : Known σ) (slope p : Formula) {n b : Ends} (h : HeldBelow (value σ slope) n)
+module _ {σ : Points} (known : Known σ) (slope p : Formula) {n b : Ends ℕ} (h : HeldBelow (value σ slope) n)
     (k : HeldBelow (value σ p) b) where
   abbrev β : Fraction
   β = value σ slope
@@ -142,7 +143,7 @@ module _ {σ : Points} (known : Known σ) (slope p : Formula) {n b : Ends} (h : 
   P = value σ p
 
   -- the evaluation, by θ's ends
-  abbrev own : Ends → SignedPair
+  abbrev own : Ends ℕ → SignedPair
   own q = record { gain = product_of n minus_ln_low; loss = product_of n q }
 
   low_same : value σ (low_part slope) ≈q β *q neg_q (σ.ln_at 10 6)

@@ -1,4 +1,5 @@
 -- What `median_of`, `nonlinear_ends_of` and `sigma_of` promise (specs/Promise).
+use Rattle.std.specs.Prelude.{ℕ}
 use mathlib.Core.Path.{refl}
 use mathlib.Core.Bool.{Bool, true, false, cond}
 use Prim.Native.Nat.{ℕ, ◌+◌, ◌*◌, ◌^◌, ◌≤◌, ◌<◌}
@@ -73,11 +74,11 @@ nonlinear_sound slope q s t =
 -- ---- the nonlinear part
 
 -- −q lies within b
-below_of : {q : Fraction} (b : Ends) → q ∈ ends (neg_ℤ (pos b.high)) (neg_ℤ (pos b.low)) → HeldBelow q b
+below_of : {q : Fraction} (b : Ends ℕ) → q ∈ ends (neg_ℤ (pos b.high)) (neg_ℤ (pos b.low)) → HeldBelow q b
 unfolding ends
 below_of b h = record { from = rw (zero_sub b.high) h.from; to = rw (zero_sub b.low) h.to }
 
-pub nonlinear_promise : {k v : ℕ} {b : Ends} → NonlinearDomain k v b →
+pub nonlinear_promise : {k v : ℕ} {b : Ends ℕ} → NonlinearDomain k v b →
     NonlinearEnds (row_at k).site v b (nonlinear_ends_of (row_at k).site v b)
 unfolding Sound value nonlinear_ends_of nonlinear_by
 nonlinear_promise {k} {v} {b} h =

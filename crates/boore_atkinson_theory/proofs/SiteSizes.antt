@@ -1,4 +1,5 @@
 -- Sizes of what the site term is made of.
+use Rattle.std.specs.Prelude.{ℕ}
 use mathlib.Core.Path.{◌≡◌, refl}
 use mathlib.Core.Bool.{Bool, true, false, cond}
 use Prim.Native.Nat.{ℕ, ◌*◌, ◌-◌, ◌≤◌, ◌<◌}
@@ -46,7 +47,7 @@ vs30_sized {v = v} slow fast = elim (dec_le Vref v) [
 ]
 
 -- with its bound, by whatever name
-abbrev pub vs30_ln : {v : ℕ} {e : Ends} → e ≡ vs30_ln_of v → V1 ≤ v → v ≤ 13_000 → Bounded e
+abbrev pub vs30_ln : {v : ℕ} {e : Ends ℕ} → e ≡ vs30_ln_of v → V1 ≤ v → v ≤ 13_000 → Bounded e
 vs30_ln same slow fast = given {β = size ln_width vs30_most} (rw same (vs30_sized slow fast))
 
 module _ {s : SiteRow} (l : SiteLimits s) {v : ℕ} (slow : V1 ≤ v) where
@@ -92,7 +93,7 @@ module _ {s : SiteRow} (l : SiteLimits s) {v : ℕ} (slow : V1 ≤ v) where
 
 -- ---- c z² + d z³ over the slope
 
-module _ {z : Ends} (p : Bounded z) where
+module _ {z : Ends ℕ} (p : Bounded z) where
   abbrev pub square : Bounded (product_of z z)
   square = product p p
 
@@ -110,14 +111,14 @@ module _ {z : Ends} (p : Bounded z) where
   cubic = sum first second
 
 -- wherever z is
-pub cubic_sized : {z : Ends} → Sized z 1_098_612_290 1_098_612_290 → Sized (cubic_of z) curve_most curve_most
+pub cubic_sized : {z : Ends ℕ} → Sized z 1_098_612_290 1_098_612_290 → Sized (cubic_of z) curve_most curve_most
 unfolding cubic_of
 cubic_sized s = at_most (cubic (given s)) _ tt
 
 -- ---- the branches
 
 -- what holds of A where b is from t on, of B where it is below t, and of their span where it reaches both
-branch_cases : (Q : Ends → Type 0) (b t A B : Ends) → (t.low ≤ b.high → t.high ≤ b.low → Q A) →
+branch_cases : (Q : Ends ℕ → Type 0) (b t A B : Ends ℕ) → (t.low ≤ b.high → t.high ≤ b.low → Q A) →
     (b.high < t.low → Q B) → (t.low ≤ b.high → b.low < t.high → Q (hull_of A B)) → Q (branch_of b t A B)
 unfolding branch_of
 branch_cases Q b t A B from below both = go (leb t.low b.high) (ltb b.low t.high) refl refl
@@ -128,7 +129,7 @@ branch_cases Q b t A B from below both = go (leb t.low b.high) (ltb b.low t.high
     go false j ei ej = below (leb-false t.low b.high ei)
 
 -- no bound on p's pair
-module _ {b : Ends} (order : b.low ≤ b.high) where
+module _ {b : Ends ℕ} (order : b.low ≤ b.high) where
   pub z_sized : b.low < minus_ln_a1.high → minus_ln_a2.low ≤ b.high → Sized (z_of b) 1_098_612_290 1_098_612_290
   unfolding z_of
   z_sized h k = omega arith
@@ -153,7 +154,7 @@ module _ {b : Ends} (order : b.low ≤ b.high) where
 
 -- ---- p's pair at most 4 units wide
 
-module _ {b : Ends} {most : ℕ} (n : Sized b rock_width most) where
+module _ {b : Ends ℕ} {most : ℕ} (n : Sized b rock_width most) where
   -- at ln 0.09, where the two branches meet
   meeting : minus_ln_a2.low ≤ b.high → b.low < minus_ln_a2.high →
       Sized (hull_of (cubic_of (z_of b)) (straight_of b)) 21 curve_most
@@ -193,25 +194,25 @@ module _ {s : SiteRow} {v : ℕ} (l : SiteLimits s) (slow : V1 ≤ v) where
   abbrev gain : Bounded (product_of (slope_of s v) minus_ln_low)
   gain = product slope (pair minus_ln_low tt)
 
-  pub nonlinear_gain_lem : (b : Ends) → (nonlinear_of s v b).gain.high ≤ nonlinear_gain
+  pub nonlinear_gain_lem : (b : Ends ℕ) → (nonlinear_of s v b).gain.high ≤ nonlinear_gain
   unfolding nonlinear_by
   nonlinear_gain_lem b = (at_most gain (size 6 nonlinear_gain) tt).most
 
   -- the slope times a curve that is at most w wide
-  by_curve : {q : Ends} (w k : ℕ) (c : Sized q w curve_most) →
+  by_curve : {q : Ends ℕ} (w k : ℕ) (c : Sized q w curve_most) →
       T (sum_bound gain.bound (product slope (given c)).bound fits size k nonlinear_most) →
       SignedSized (nonlinear_by s v q) k nonlinear_most
   unfolding nonlinear_by
   by_curve w k c t = signed_wider (pair_of gain.within (product slope (given c)).within) (fitting t)
 
-  pub nonlinear_by_sized : {q : Ends} → Sized q curve_most curve_most →
+  pub nonlinear_by_sized : {q : Ends ℕ} → Sized q curve_most curve_most →
       SignedSized (nonlinear_by s v q) nonlinear_most nonlinear_most
   nonlinear_by_sized c = by_curve curve_most nonlinear_most c tt
 
-pub nonlinear_sized : {s : SiteRow} {v : ℕ} (b : Ends) → SiteLimits s → V1 ≤ v → b.low ≤ b.high →
+pub nonlinear_sized : {s : SiteRow} {v : ℕ} (b : Ends ℕ) → SiteLimits s → V1 ≤ v → b.low ≤ b.high →
     SignedSized (nonlinear_of s v b) nonlinear_most nonlinear_most
 nonlinear_sized b l slow order = nonlinear_by_sized l slow (curve_sized order)
 
-pub nonlinear_narrow : {s : SiteRow} {v : ℕ} {b : Ends} {most : ℕ} → SiteLimits s → V1 ≤ v → Sized b rock_width most →
+pub nonlinear_narrow : {s : SiteRow} {v : ℕ} {b : Ends ℕ} {most : ℕ} → SiteLimits s → V1 ≤ v → Sized b rock_width most →
     SignedSized (nonlinear_of s v b) nonlinear_width nonlinear_most
 nonlinear_narrow {b = b} l slow n = by_curve l slow 21 nonlinear_width (curve_narrow n) tt

@@ -1,4 +1,5 @@
 -- What the code puts together is what the evaluation has.
+use Rattle.std.specs.Prelude.{ℕ}
 use mathlib.Core.Path.{◌≡◌, refl, sym, ◌∙◌}
 use Prim.Native.Nat.{ℕ, ◌≤◌, ◌<◌}
 use native.Mathlib.Decide.{dec_le}
@@ -15,7 +16,7 @@ use Rattle.boore_atkinson_theory.specs.Evaluation.{minus_p_of, flat_from, slope_
 use Rattle.boore_atkinson_theory.specs.Evaluation.{nonlinear_by, nonlinear_of}
 
 -- what is equal to a pair has its bound
-pub as_sized : {x y : Ends} {β : Bound} → x ≡ y → Within y β → (x ≡ y) × Within x β
+pub as_sized : {x y : Ends ℕ} {β : Bound} → x ≡ y → Within y β → (x ≡ y) × Within x β
 as_sized e h = (e, rw e h)
 
 pub as_signed : {x y : SignedPair} {β : Bound} → x ≡ y → SignedWithin y β → (x ≡ y) × SignedWithin x β
@@ -23,7 +24,7 @@ as_signed e h = (e, rw e h)
 
 -- ---- the branches, by where b reaches
 
-module _ (b t A B : Ends) {r : Ends} where
+module _ (b t A B : Ends ℕ) {r : Ends ℕ} where
   pub branch_from_is : t.low ≤ b.high → t.high ≤ b.low → r ≡ A → r ≡ branch_of b t A B
   unfolding branch_of
   branch_from_is h k e = rw (le-leb t.low b.high h, le-ltb b.low t.high k) e
@@ -32,7 +33,7 @@ module _ (b t A B : Ends) {r : Ends} where
   unfolding branch_of
   branch_below_is h e = rw (lt-leb t.low b.high h) e
 
-  pub branch_both_is : {x y : Ends} → t.low ≤ b.high → b.low < t.high → x ≡ A → y ≡ B → r ≡ hull_of x y →
+  pub branch_both_is : {x y : Ends ℕ} → t.low ≤ b.high → b.low < t.high → x ≡ A → y ≡ B → r ≡ hull_of x y →
       r ≡ branch_of b t A B
   unfolding branch_of
   branch_both_is h k ex ey e = rw (le-leb t.low b.high h, lt-ltb b.low t.high k, ← ex, ← ey) e
@@ -40,10 +41,10 @@ module _ (b t A B : Ends) {r : Ends} where
 -- ---- where p has no part
 
 -- from 760 m/s on the slope is 0, and the nonlinear part, for every p, is what the roundings leave
-abbrev one : Ends
+abbrev one : Ends ℕ
 one = record { low = 0; high = 1 }
 
-pub flat : (s : SiteRow) (v : ℕ) (q : Ends) → Vref ≤ v → record { gain = one; loss = one } ≡ nonlinear_by s v q
+pub flat : (s : SiteRow) (v : ℕ) (q : Ends ℕ) → Vref ≤ v → record { gain = one; loss = one } ≡ nonlinear_by s v q
 unfolding nonlinear_by slope_of product_of
 flat s v q h = rw (lt-leb v V1 (omega arith), lt-leb v V2 (omega arith), le-ltb v Vref h) (simp zero-mul)
 

@@ -6,8 +6,8 @@ use interval_theory::Ends;
 // The distance R = √(RJB² + h²), by ln R² and by R in km.
 #[derive(Clone, Copy)]
 pub struct EffectiveDistance {
-    pub ln: Ends,
-    pub km: Ends,
+    pub ln: Ends<u64>,
+    pub km: Ends<u64>,
 }
 
 // gain − loss.

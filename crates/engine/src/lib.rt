@@ -19,7 +19,7 @@ pub use engine_theory::{Answer, Doubles, DoublesAnswer, Enclosure, NextAnswer};
 use interpolation::interpolated;
 use interpolation_theory::TwoRows;
 use interval::ends;
-use interval_theory::SignedEnds;
+use interval_theory::Ends;
 use record_theory::BasedReading;
 use row_neighbours::{boore_atkinson_neighbours, idriss_neighbours};
 use scenario_theory::{Basis, Check, Place, ProjectionDistance, RuptureDistance, Scenario};
@@ -53,7 +53,7 @@ fn idriss_median(
     period: u16,
     place: Place,
     rows: TwoRows,
-) -> SignedEnds
+) -> Ends<i64>
     requires placed { Placed idriss idriss_row magnitude distance.0 velocity mechanism period place }
     requires rows_value { rows ≡ idriss_rows_of magnitude distance.0 velocity mechanism (first_in place)
         (last_in place) }

@@ -1,4 +1,5 @@
 -- The ends of an accepted scenario enclose what its model gives: by a row, and between two rows (W-201).
+use Rattle.std.specs.Prelude.{ℤ}
 use mathlib.Core.Path.{◌≡◌, refl}
 use mathlib.Core.Bool.{Bool, true, false, false≢true, or-false, cond, ◌&&◌, ◌||◌}
 use mathlib.Core.Logic.{⊎_elim}
@@ -15,7 +16,7 @@ use Rattle.toolbox_theory.proofs.Whole.{≤ℤ_in, ≤ℤ_trans, add_is, within_
 use Rattle.exact_theory.specs.Pair.{Pair}
 use Rattle.exact_theory.specs.Formula.{Formula, Defined, ends, Encloses}
 use Rattle.exact_theory.proofs.UnitLaws.{in_order}
-use Rattle.interval_theory.specs.declared.SignedEnds.{SignedEnds}
+use Rattle.interval_theory.specs.declared.Ends.{Ends}
 use Rattle.interval_theory.specs.Signed.{SmallerThan}
 use Rattle.interval_theory.specs.Bound.{Reaches}
 use Rattle.interval_theory.proofs.SignedBounds.{reaches_more}
@@ -56,19 +57,19 @@ use Rattle.engine_theory.specs.Evaluation.{enclosure_of, SmallEnclosure}
 use Rattle.engine_theory.proofs.RowLaws.{idriss_tabled, boore_atkinson_tabled, on_step, not_first}
 
 -- two ends enclose f, at most w units apart, and a double equals each
-pub record Ends (w : ℕ) (f : Formula) (e : SignedEnds) : Type 0 where
+pub record SoundEnds (w : ℕ) (f : Formula) (e : Ends ℤ) : Type 0 where
   pub enclosed : EnclosedWithin w f e.low e.high
   pub small : SmallerThan (2 ^ 53) e
 
 -- ends that are at most v units apart are at most w
-ends_of : {f : Formula} (e : SignedEnds) (v w : ℕ) → v ≤ w → Encloses (ends e.low e.high) f →
-    e.high ≤ℤ (e.low +ℤ pos v) → SmallerThan (2 ^ 53) e → Ends w f e
+ends_of : {f : Formula} (e : Ends ℤ) (v w : ℕ) → v ≤ w → Encloses (ends e.low e.high) f →
+    e.high ≤ℤ (e.low +ℤ pos v) → SmallerThan (2 ^ 53) e → SoundEnds w f e
 ends_of e v w more h narrow small = record {
   enclosed = record { encloses = h; narrow = within_more _ e.low v w more narrow };
   small = small;
 }
 
-between_ends : {f : Formula} {v l h : ℕ} {e : SignedEnds} (w : ℕ) → v ≤ w → BetweenEnds f v l h e → Ends w f e
+between_ends : {f : Formula} {v l h : ℕ} {e : Ends ℤ} (w : ℕ) → v ≤ w → BetweenEnds f v l h e → SoundEnds w f e
 between_ends {v = v} {e = e} w more b = ends_of e v w more b.encloses b.narrow b.small
 
 -- equal ends are no units apart
@@ -77,11 +78,11 @@ unfolding up down
 no_units z e = rw e (≤ℤ_in (omega (arith, add_is z (pos 0))))
 
 -- those of a median lie within the range, too
-record MedianEnds (w : ℕ) (f : Formula) (e : SignedEnds) : Type 0 where
-  own : Ends w f e
+record MedianEnds (w : ℕ) (f : Formula) (e : Ends ℤ) : Type 0 where
+  own : SoundEnds w f e
   inside : InRange e
 
-median_ends : {w l h : ℕ} {f : Formula} {e : SignedEnds} → Ends w f e → l ≤ median_least → h ≤ median_most →
+median_ends : {w l h : ℕ} {f : Formula} {e : Ends ℤ} → SoundEnds w f e → l ≤ median_least → h ≤ median_most →
     Reaches l h e → MedianEnds w f e
 median_ends {e = e} own least most reaches =
     let order = in_order own.enclosed.encloses in
@@ -92,7 +93,7 @@ median_ends {e = e} own least most reaches =
     }
 
 -- what is computed at a period is to what the model gives there as each of its two cases is
-by_tabled : (K : ℕ → Formula → SignedEnds → Type 0) (b : Bool) {w v : ℕ} {f g : Formula} {d e : SignedEnds} →
+by_tabled : (K : ℕ → Formula → Ends ℤ → Type 0) (b : Bool) {w v : ℕ} {f g : Formula} {d e : Ends ℤ} →
     (b ≡ true → K w f d) → (b ≡ false → K v g e) → K (cond b w v) (cond b f g) (cond b d e)
 by_tabled K true tabled other = tabled refl
 by_tabled K false tabled other = other refl
@@ -129,7 +130,7 @@ module _ (s : Scenario) where
         (idriss_between_promise is_table3 s.mechanism d b.step) in
         median_ends (between_ends (2 * idriss_width) (omega arith) m) (omega arith) (omega arith) m.reaches)
 
-  idriss_sigma_lem : Ends idriss_sigma_width (idriss_sigma T s.magnitude) (idriss_sigma_of T s.magnitude)
+  idriss_sigma_lem : SoundEnds idriss_sigma_width (idriss_sigma T s.magnitude) (idriss_sigma_of T s.magnitude)
   idriss_sigma_lem =
       let g = idriss_sigma_promise T s.magnitude in
       ends_of _ idriss_promise.sigma_width idriss_sigma_width (omega arith) g.encloses g.narrow g.small
@@ -159,10 +160,10 @@ module _ (s : Scenario) where
         (median_between_of_promise s.mechanism (not_first b.rows) d b.step) in
         median_ends (between_ends (2 * boore_atkinson_width) (omega arith) m) (omega arith) (omega arith) m.reaches)
 
-    boore_atkinson_sigma_lem : Ends (cond (has_row boore_atkinson T) 0 sigma_between_width) (boore_atkinson_sigma_by s)
+    boore_atkinson_sigma_lem : SoundEnds (cond (has_row boore_atkinson T) 0 sigma_between_width) (boore_atkinson_sigma_by s)
         (boore_atkinson_sigma_ends s.mechanism T)
     boore_atkinson_sigma_lem =
-        by_tabled Ends (has_row boore_atkinson T)
+        by_tabled SoundEnds (has_row boore_atkinson T)
         (λ e.
         let g = rw (← total_at_lem T) at (boore_atkinson_sigma_promise _ s.mechanism (boore_atkinson_row_lem T e)) in
         ends_of _ 0 0 (omega arith) g.encloses (no_units _ g.equal) g.small)
@@ -187,7 +188,7 @@ pub record Sound (s : Scenario) (e : Enclosure) : Type 0 where
 module _ (s : Scenario) where
   -- by what the model gives and what is computed
   sound_by : (f : Formula) (e : Enclosure) → median s ≡ f → enclosure_of s ≡ e →
-      MedianEnds (median_width s) f e.median → Ends (sigma_width s) (sigma s) e.sigma → Sound s (enclosure_of s)
+      MedianEnds (median_width s) f e.median → SoundEnds (sigma_width s) (sigma s) e.sigma → Sound s (enclosure_of s)
   sound_by f e gives computes m g =
       rw computes (record {
         median_enclosed = rw gives m.own.enclosed;

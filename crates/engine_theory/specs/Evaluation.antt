@@ -3,7 +3,7 @@
 use Rattle.std.specs.Prelude.{cond, List, ℕ, ◌^◌, ℤ, pos, Float}
 use Rattle.std.specs.Float.{Format, binary64}
 use Rattle.std.specs.Float.Ieee.{of_int}
-use Rattle.interval_theory.specs.declared.SignedEnds.{SignedEnds}
+use Rattle.interval_theory.specs.declared.Ends.{Ends}
 use Rattle.interval_theory.specs.Signed.{SmallerThan}
 use Rattle.interpolation_theory.specs.declared.Step.{Step}
 use Rattle.interpolation_theory.specs.Steps.{step_of}
@@ -34,25 +34,25 @@ use Rattle.engine_theory.specs.Models.{by_model}
 -- ---- in whole numbers of units
 
 -- by the row of the period where it has one, else between two rows
-abbrev pub at_period_of : Limits → ℕ → (ℕ → SignedEnds) → (ℕ → ℕ → Step → SignedEnds) → SignedEnds
+abbrev pub at_period_of : Limits → ℕ → (ℕ → Ends ℤ) → (ℕ → ℕ → Step → Ends ℤ) → Ends ℤ
 at_period_of m T by_row between_rows =
     let T1 : ℕ = neighbour_below m T in
     let T2 : ℕ = neighbour_above m T in
     cond (has_row m T) (by_row T) (between_rows T1 T2 (step_of T T1 T2))
 
 -- Idriss's median by one of its tables, from magnitude, rupture distance, velocity, mechanism and period
-abbrev pub idriss_median_ends : List Row → ℕ → ℕ → ℕ → ℕ → ℕ → SignedEnds
+abbrev pub idriss_median_ends : List Row → ℕ → ℕ → ℕ → ℕ → ℕ → Ends ℤ
 idriss_median_ends table M R Vs mechanism T =
     at_period_of idriss T (λ t. idriss_median_of (row_in table t) M R Vs mechanism)
     (λ t u step. idriss_median_between_of (row_in table t) (row_in table u) step M R Vs mechanism)
 
 -- and Boore-Atkinson's, with the projection distance
-abbrev pub boore_atkinson_median_ends : ℕ → ℕ → ℕ → ℕ → ℕ → SignedEnds
+abbrev pub boore_atkinson_median_ends : ℕ → ℕ → ℕ → ℕ → ℕ → Ends ℤ
 boore_atkinson_median_ends M RJB Vs mechanism T =
     at_period_of boore_atkinson T (λ t. boore_atkinson_median_of (row_for t) M RJB Vs mechanism)
     (λ t u step. boore_atkinson_median_between_of (row_for t) (row_for u) step M RJB Vs mechanism)
 
-abbrev pub boore_atkinson_sigma_ends : ℕ → ℕ → SignedEnds
+abbrev pub boore_atkinson_sigma_ends : ℕ → ℕ → Ends ℤ
 boore_atkinson_sigma_ends mechanism T =
     at_period_of boore_atkinson T (λ t. boore_atkinson_sigma_of (total_for t) mechanism)
     (λ t u step. sigma_between_of (total_for t) (total_for u) step mechanism)

@@ -1,6 +1,6 @@
 -- Where the ends of a median lie, in units of 10^-9. W-203's millionths of g rest on it.
-use Rattle.std.specs.Prelude.{ℕ, pos, ◌≤ℤ◌}
-use Rattle.interval_theory.specs.declared.SignedEnds.{SignedEnds}
+use Rattle.std.specs.Prelude.{ℕ, pos, ◌≤ℤ◌, ℤ}
+use Rattle.interval_theory.specs.declared.Ends.{Ends}
 use Rattle.interval_theory.specs.Bound.{Reaches}
 use Rattle.engine_theory.specs.declared.Answer.{Answer}
 use Rattle.engine_theory.specs.declared.Answer.TheVariants as A
@@ -13,7 +13,7 @@ abbrev pub median_most : ℕ
 median_most = 2_100_000_000
 
 -- the ends are in order and lie there, so neither is above the most
-pub record InRange (e : SignedEnds) : Type 0 where
+pub record InRange (e : Ends ℤ) : Type 0 where
   pub order : e.low ≤ℤ e.high
   pub low_most : e.low ≤ℤ pos median_most
   pub reaches : Reaches median_least median_most e

@@ -1,13 +1,13 @@
 // Answers: their types, what the models give, what is promised, what is computed, and laws. There is no code.
 #![tactic(auto)]
 
-use interval_theory::SignedEnds;
+use interval_theory::Ends;
 
 // The ends of the median and those of sigma.
 #[derive(Clone, Copy)]
 pub struct Enclosure {
-    pub median: SignedEnds,
-    pub sigma: SignedEnds,
+    pub median: Ends<i64>,
+    pub sigma: Ends<i64>,
 }
 
 // What answering gives: four ends, or the number with which it is turned away.

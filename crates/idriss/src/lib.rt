@@ -19,7 +19,7 @@ ghost use Rattle.idriss_theory.specs.Sizes.{alpha_most, exact_most, distance_ter
 use idriss_tables as table;
 use idriss_theory::Row;
 use interpolation_theory::TwoRows;
-use interval_theory::{Ends, SignedEnds, SignedPair};
+use interval_theory::{Ends, SignedPair};
 use period_step::no_pair;
 use scenario_theory::RuptureDistance;
 
@@ -61,7 +61,7 @@ fn losses(r: Row, m: u64, rupture_distance: u64) -> u64
 }
 
 // ln(R + 10).
-fn distance_ln(rupture_distance: u64) -> Ends
+fn distance_ln(rupture_distance: u64) -> Ends<u64>
     requires { rupture_distance ≤ 17_500 }
     ensures { (result ≡ distance_ln_of rupture_distance) × Sized result ln_width ln_most }
 {
@@ -69,7 +69,7 @@ fn distance_ln(rupture_distance: u64) -> Ends
 }
 
 // ln V; a V above 1200 m/s counts as 1200.
-fn vs30_ln(vs30: u64) -> Ends
+fn vs30_ln(vs30: u64) -> Ends<u64>
     requires { 4_500 ≤ vs30 }
     ensures { (result ≡ vs30_ln_of vs30) × Sized result ln_width ln_most }
 {
@@ -77,7 +77,7 @@ fn vs30_ln(vs30: u64) -> Ends
 }
 
 // (β1 + β2 M) ln(R + 10), by that logarithm.
-fn distance_term(r: Row, m: u64, l: Ends) -> Ends
+fn distance_term(r: Row, m: u64, l: Ends<u64>) -> Ends<u64>
     requires { RowLimits r × (450 ≤ m) × (m ≤ 790) × Sized l ln_width ln_most }
     ensures { (result ≡ distance_term_of r m l) × Sized result 5 distance_term_most }
 {
@@ -85,7 +85,7 @@ fn distance_term(r: Row, m: u64, l: Ends) -> Ends
 }
 
 // −ξ ln V, by that logarithm.
-fn site_term(r: Row, l: Ends) -> Ends
+fn site_term(r: Row, l: Ends<u64>) -> Ends<u64>
     requires { RowLimits r × Sized l ln_width ln_most }
     ensures { (result ≡ site_term_of r l) × Sized result 4 site_term_most }
 {
@@ -99,8 +99,8 @@ fn median_by_row(
     k: usize,
     m: u64,
     d: u64,
-    ln_r: Ends,
-    ln_v: Ends,
+    ln_r: Ends<u64>,
+    ln_v: Ends<u64>,
     mechanism: u8,
 ) -> SignedPair
     requires k_lt_row_count { (k < row_count) × (450 ≤ m) × (m ≤ 790) × (d ≤ 17_500) }
@@ -129,7 +129,7 @@ pub fn median(
     rupture_distance: RuptureDistance,
     vs30: u16,
     mechanism: u8,
-) -> SignedEnds
+) -> Ends<i64>
     requires { MedianDomain k magnitude rupture_distance.0 vs30 }
     ensures value { result ≡ median_of (row_at table_3 k) magnitude rupture_distance.0 vs30 mechanism }
     ensures median_ends { MedianEnds (row_at table_3 k) magnitude rupture_distance.0 vs30 mechanism result }

@@ -9,11 +9,11 @@ ghost use Rattle.idriss_theory.specs.Promise.{SigmaEnds};
 ghost use Rattle.idriss_theory.specs.Evaluation.{period_term_of, sigma_pair_of, sigma_of};
 ghost use Rattle.idriss_theory.specs.Sizes.{period_term_most};
 
-use interval_theory::{Ends, SignedEnds};
+use interval_theory::{Ends };
 use order::{max, min};
 
 // 0.035 ln(a/b), by the engine's own logarithm.
-fn period_term(a: u64, b: u64) -> Ends
+fn period_term(a: u64, b: u64) -> Ends<u64>
     requires { LnDomain a b }
     ensures { (result ≡ period_term_of a b) × Sized result 2 period_term_most }
 {
@@ -21,7 +21,7 @@ fn period_term(a: u64, b: u64) -> Ends
 }
 
 // 1.18 + 0.035 ln T − 0.06 M, of a T and an M that are clamped. Below 1 s ln T is −ln(1/T).
-fn clamped_sigma(t: u64, m: u64) -> SignedEnds
+fn clamped_sigma(t: u64, m: u64) -> Ends<i64>
     requires { (50 ≤ t) × (t ≤ 3_000) × (m ≤ 750) }
     ensures { result ≡ ends_of (sigma_pair_of t m) }
 {
@@ -45,7 +45,7 @@ fn clamped_sigma(t: u64, m: u64) -> SignedEnds
 }
 
 // Sigma at any period and magnitude. Where T is a limit of its range, the compiler works ln T out.
-pub fn sigma(period: u16, magnitude: u16) -> SignedEnds
+pub fn sigma(period: u16, magnitude: u16) -> Ends<i64>
     ensures value { result ≡ sigma_of period magnitude }
     ensures sigma_ends { SigmaEnds period magnitude result }
 {

@@ -1,4 +1,5 @@
 -- Sizes of the products that the median forms.
+use Rattle.std.specs.Prelude.{ℕ}
 use mathlib.Core.List.{[], ◌∷◌}
 use Prim.Native.Nat.{ℕ, ◌+◌, ◌*◌, ◌-◌, ◌≤◌, min}
 use native.Mathlib.Nat.{mul-le-mul, mul-le-mul_left}
@@ -61,13 +62,13 @@ pub site_domain : {v : ℕ} → 4_500 ≤ v → LnDomain (min v vs30_cap) 10
 site_domain h = omega arith
 
 -- by any ends of a logarithm
-pub distance_sized : {r : Row} {m : ℕ} {e : Ends} → RowLimits r → 450 ≤ m → m ≤ 790 → Sized e ln_width ln_most →
+pub distance_sized : {r : Row} {m : ℕ} {e : Ends ℕ} → RowLimits r → 450 ≤ m → m ≤ 790 → Sized e ln_width ln_most →
     Sized (distance_term_of r m e) 5 distance_term_most
 unfolding distance_term_of
 distance_sized l low high s =
     at_most (multiple 40_000_000 (beta_bounds l low high).small (given s)) (size 5 distance_term_most) tt
 
-pub site_sized : {r : Row} {e : Ends} → RowLimits r → Sized e ln_width ln_most →
+pub site_sized : {r : Row} {e : Ends ℕ} → RowLimits r → Sized e ln_width ln_most →
     Sized (site_term_of r e) 4 site_term_most
 unfolding site_term_of
 site_sized l s = at_most (multiple 30_000_000 (omega arith) (given s)) (size 4 site_term_most) tt

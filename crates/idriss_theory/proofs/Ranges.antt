@@ -2,6 +2,7 @@
 -- coefficients times M, (8.5 − M)², ln(R + 10), ln V, R or F, and is greatest at an end of what it multiplies: the high
 -- end where the difference is above zero, and the low end where it is below. A test adds these up, once for all
 -- magnitudes, distances, velocities and codes.
+use Rattle.std.specs.Prelude.{ℕ}
 use mathlib.Core.Bool.{Bool, true, false, ◌&&◌}
 use Prim.Native.Nat.{ℕ, ◌+◌, ◌*◌, ◌-◌, ◌≤◌, ◌<◌}
 use native.Mathlib.Nat.{mul-le-mul, mul-le-mul_left, mul-le-mul_right}
@@ -75,7 +76,7 @@ own_bound : (t : Term) {x : ℕ} → t.least ≤ x → x ≤ t.most → t.gain *
 own_bound t from to = term_bound t t.gain t.loss (omega arith) from to
 
 -- of multiples of a logarithm: p's high end less q's low end, each rounded by at most a unit
-ln_bound_lem : (t : Term) (p q : ℕ) {e : Ends} → p + t.loss ≤ q + t.gain →
+ln_bound_lem : (t : Term) (p q : ℕ) {e : Ends ℕ} → p + t.loss ≤ q + t.gain →
     Within e (record { width = ln_width; least = t.least; most = t.most }) →
     scale * (multiple_of p e).high + under t ≤ scale * (multiple_of q e).low + above t + ln_width * p + 2 * scale
 unfolding multiple_of

@@ -1,4 +1,5 @@
 -- What `sigma_of` promises (specs/Promise).
+use Rattle.std.specs.Prelude.{ℤ}
 use mathlib.Core.Path.{◌≡◌, refl, ◌∙◌}
 use Prim.Native.Nat.{ℕ, ◌^◌, ◌<◌}
 use native.Mathlib.Omega.{arith}
@@ -13,7 +14,7 @@ use Rattle.exact_theory.proofs.Points.{Points, value, Sound, ln_q_is}
 use Rattle.exact_theory.proofs.UnitLaws.{lies_natural, lies_negated, lies_stated, lies_wider, lies_sum}
 use Rattle.exact_theory.proofs.UnitLaws.{lies_difference}
 use Rattle.interval_theory.specs.declared.SignedPair.{SignedPair}
-use Rattle.interval_theory.specs.declared.SignedEnds.{SignedEnds}
+use Rattle.interval_theory.specs.declared.Ends.{Ends}
 use Rattle.interval_theory.specs.Natural.{MultipleDomain, sum_of}
 use Rattle.interval_theory.specs.Signed.{ends_of}
 use Rattle.interval_theory.specs.Bound.{size, Sized, SignedSized}
@@ -135,7 +136,7 @@ by_clamped period magnitude =
     rw (twice, again) refl
 
 -- every pair of which a contract says that it is sigma's, by numbers that are clamped, keeps the promise
-pub sigma_ends : {period magnitude t m : ℕ} {r : SignedEnds} → r ≡ ends_of (sigma_pair_of t m) →
+pub sigma_ends : {period magnitude t m : ℕ} {r : Ends ℤ} → r ≡ ends_of (sigma_pair_of t m) →
     t ≡ clamped_period period → m ≡ clamped_magnitude magnitude →
     (r ≡ sigma_of period magnitude) × SigmaEnds period magnitude r
 unfolding sigma_of

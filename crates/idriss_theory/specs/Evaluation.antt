@@ -1,7 +1,6 @@
 -- What median and sigma compute, in whole numbers of units of 10^-9. A change of the way of computing swaps these
 -- definitions behind their names; callers go by the laws of proofs/Laws and SigmaLaws, and never by this text.
-use Rattle.std.specs.Prelude.{cond, ℕ, ◌+◌, ◌*◌, ◌-◌, ◌≤◌, min, ltb}
-use Rattle.interval_theory.specs.declared.SignedEnds.{SignedEnds}
+use Rattle.std.specs.Prelude.{cond, ℕ, ◌+◌, ◌*◌, ◌-◌, ◌≤◌, min, ltb, ℤ}
 use Rattle.interval_theory.specs.declared.Ends.{Ends}
 use Rattle.interval_theory.specs.declared.SignedPair.{SignedPair}
 use Rattle.interval_theory.specs.Signed.{ends_of}
@@ -45,21 +44,21 @@ abbrev pub vs30_cap : ℕ
 vs30_cap = 12_000
 
 -- ln(R + 10) and ln V, which all rows have in common
-abbrev pub distance_ln_of : ℕ → Ends
+abbrev pub distance_ln_of : ℕ → Ends ℕ
 distance_ln_of rupture_distance = ln_of (rupture_distance + 1_000) 100
 
-abbrev pub vs30_ln_of : ℕ → Ends
+abbrev pub vs30_ln_of : ℕ → Ends ℕ
 vs30_ln_of vs30 = ln_of (min vs30 vs30_cap) 10
 
 -- (β1 + β2 M) ln(R + 10), and −ξ ln V, by these logarithms
-unfoldable pub distance_term_of : code.Row → ℕ → Ends → Ends
+unfoldable pub distance_term_of : code.Row → ℕ → Ends ℕ → Ends ℕ
 distance_term_of r m l = multiple_of (beta_of r m) l
 
-unfoldable pub site_term_of : code.Row → Ends → Ends
+unfoldable pub site_term_of : code.Row → Ends ℕ → Ends ℕ
 site_term_of r l = multiple_of (20_000 * r.8) l
 
 -- the median as a gain less a loss, by these logarithms and of a distance and a V_S30, and its ends
-unfoldable pub median_pair_by : Row → ℕ → ℕ → Ends → Ends → ℕ → SignedPair
+unfoldable pub median_pair_by : Row → ℕ → ℕ → Ends ℕ → Ends ℕ → ℕ → SignedPair
 median_pair_by row m d ln_r ln_v mechanism =
     let r : code.Row = parts row in
     record {
@@ -70,11 +69,11 @@ median_pair_by row m d ln_r ln_v mechanism =
 abbrev pub median_pair_of : Row → ℕ → ℕ → ℕ → ℕ → SignedPair
 median_pair_of row m d v mechanism = median_pair_by row m d (distance_ln_of d) (vs30_ln_of v) mechanism
 
-unfoldable pub median_of : Row → ℕ → ℕ → ℕ → ℕ → SignedEnds
+unfoldable pub median_of : Row → ℕ → ℕ → ℕ → ℕ → Ends ℤ
 median_of row m d v mechanism = ends_of (median_pair_of row m d v mechanism)
 
 -- between two rows, by the logarithms of a step from one to the other
-unfoldable pub median_between_of : Row → Row → Step → ℕ → ℕ → ℕ → ℕ → SignedEnds
+unfoldable pub median_between_of : Row → Row → Step → ℕ → ℕ → ℕ → ℕ → Ends ℤ
 median_between_of r q s m d v mechanism =
     interpolated_of (median_pair_of r m d v mechanism) (median_pair_of q m d v mechanism) s.part s.whole
 
@@ -94,18 +93,18 @@ constant_term = 1_180_000_000
 abbrev pub magnitude_term_of : ℕ → ℕ
 magnitude_term_of m = 600_000 * m
 
-unfoldable pub period_term_of : ℕ → ℕ → Ends
+unfoldable pub period_term_of : ℕ → ℕ → Ends ℕ
 period_term_of a b = multiple_of 700_000 (ln_of a b)
 
 -- 1.18 + 0.035 ln T − 0.06 M as a gain less a loss, of numbers that are clamped: below 1 s ln T is −ln(1/T)
 unfoldable pub sigma_pair_of : ℕ → ℕ → SignedPair
 sigma_pair_of t m =
-    let constant : Ends = exactly constant_term in
-    let magnitude_term : Ends = exactly (magnitude_term_of m) in
+    let constant : Ends ℕ = exactly constant_term in
+    let magnitude_term : Ends ℕ = exactly (magnitude_term_of m) in
     cond (ltb t 1_000)
     record { gain = constant; loss = sum_of magnitude_term (period_term_of 1_000 t) }
     record { gain = sum_of constant (period_term_of t 1_000); loss = magnitude_term }
 
 -- and its ends
-unfoldable pub sigma_of : ℕ → ℕ → SignedEnds
+unfoldable pub sigma_of : ℕ → ℕ → Ends ℤ
 sigma_of period magnitude = ends_of (sigma_pair_of (clamped_period period) (clamped_magnitude magnitude))

@@ -1,8 +1,8 @@
 -- What is promised of the ends of median and sigma, whatever the engine computes. proofs/Laws, SigmaLaws and Between
 -- show it of `median_of`, `sigma_of` and `median_between_of`; nobody has to read those to believe it.
-use Rattle.std.specs.Prelude.{◌≡◌, ℕ, ◌+◌, ◌^◌, ◌≤◌, ◌<◌, pos, ◌+ℤ◌, ◌≤ℤ◌}
+use Rattle.std.specs.Prelude.{◌≡◌, ℕ, ◌+◌, ◌^◌, ◌≤◌, ◌<◌, pos, ◌+ℤ◌, ◌≤ℤ◌, ℤ}
 use Rattle.exact_theory.specs.Formula.{ends, Encloses}
-use Rattle.interval_theory.specs.declared.SignedEnds.{SignedEnds}
+use Rattle.interval_theory.specs.declared.Ends.{Ends}
 use Rattle.interval_theory.specs.Signed.{SmallerThan}
 use Rattle.interpolation_theory.specs.declared.Step.{Step}
 use Rattle.interpolation_theory.specs.Between.{between}
@@ -35,24 +35,24 @@ abbrev pub between_width : ℕ
 between_width = 80
 
 -- e encloses the median by the row r, at every fineness, is narrow, and has ends that a double equals
-pub record MedianEnds (r : Row) (magnitude rupture_distance vs30 mechanism : ℕ) (e : SignedEnds) : Type 0 where
+pub record MedianEnds (r : Row) (magnitude rupture_distance vs30 mechanism : ℕ) (e : Ends ℤ) : Type 0 where
   pub encloses : Encloses (ends e.low e.high) (median r magnitude rupture_distance vs30 mechanism)
   pub narrow : e.high ≤ℤ (e.low +ℤ pos median_width)
   pub small : SmallerThan (2 ^ 53) e
 
 -- e encloses sigma, at every fineness, is narrow, and has ends that a double equals
-pub record SigmaEnds (period magnitude : ℕ) (e : SignedEnds) : Type 0 where
+pub record SigmaEnds (period magnitude : ℕ) (e : Ends ℤ) : Type 0 where
   pub encloses : Encloses (ends e.low e.high) (sigma period magnitude)
   pub narrow : e.high ≤ℤ (e.low +ℤ pos sigma_width)
   pub small : SmallerThan (2 ^ 53) e
 
 -- the ends f of sigma go by period and magnitude only as these are "held to" their ranges (document 01, 'Idriss')
-abbrev pub ByClamped : (ℕ → ℕ → SignedEnds) → Type 0
+abbrev pub ByClamped : (ℕ → ℕ → Ends ℤ) → Type 0
 ByClamped f = (period magnitude : ℕ) → f period magnitude ≡ f (clamp 50 3_000 period) (clamp 500 750 magnitude)
 
 -- e encloses the median between the rows r and q, at every fineness, is narrow, and lies where the medians by rows do,
 -- but for 100 units
-abbrev pub MedianBetweenEnds : Row → Row → Step → ℕ → ℕ → ℕ → ℕ → SignedEnds → Type 0
+abbrev pub MedianBetweenEnds : Row → Row → Step → ℕ → ℕ → ℕ → ℕ → Ends ℤ → Type 0
 MedianBetweenEnds r q s magnitude rupture_distance vs30 mechanism e =
     BetweenEnds (between s.period s.lower s.upper (median r magnitude rupture_distance vs30 mechanism)
     (median q magnitude rupture_distance vs30 mechanism)) between_width (median_least + 100) (median_most + 100) e

@@ -6,7 +6,7 @@ ghost use Rattle.interpolation_theory.specs.Evaluation.{part_down, part_up, Part
 ghost use Rattle.interpolation_theory.specs.Evaluation.{interpolated_of, InterpolationDomain};
 
 use interval::between;
-use interval_theory::{Ends, SignedEnds, SignedPair};
+use interval_theory::{Ends, SignedPair};
 
 // What `above` exceeds `below` by, times t/u, rounded down.
 fn part_down(above: u64, below: u64, t: u64, u: u64) -> u64
@@ -31,7 +31,7 @@ fn part_up(above: u64, below: u64, t: u64, u: u64) -> u64
 }
 
 // a + (b − a) t/u, for t and u anywhere between their ends.
-pub fn interpolated(a: SignedPair, b: SignedPair, t: Ends, u: Ends) -> SignedEnds
+pub fn interpolated(a: SignedPair, b: SignedPair, t: Ends<u64>, u: Ends<u64>) -> Ends<i64>
     requires { InterpolationDomain a b t u }
     ensures { result ≡ interpolated_of a b t u }
 {

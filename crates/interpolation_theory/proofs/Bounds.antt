@@ -1,4 +1,5 @@
 -- How wide the computed ends are, and how far they reach.
+use Rattle.std.specs.Prelude.{ℕ}
 use mathlib.Core.Path.{◌≡◌, ap}
 use Prim.Native.Nat.{ℕ, ◌+◌, ◌*◌, ◌-◌, ◌/◌, ◌≤◌, ◌<◌, min}
 use native.Mathlib.Nat.{mul-le-mul_left, mul-le-mul_right, lt_of_mul-lt-mul_right, div-mul-le_self, div-le_of_le-mul}
@@ -22,14 +23,14 @@ use Rattle.interpolation_theory.proofs.Values.{rearranged}
 
 -- of the part that is added and the one that is taken off, one is zero: together they are a unit away at most from what
 -- they are rounded from
-record Rounded (x y : ℕ) (τ υ : Ends) : Type 0 where
+record Rounded (x y : ℕ) (τ υ : Ends ℕ) : Type 0 where
   more : ℕ
   less : ℕ
   added : (x - y) * τ.low + min 1 (x - y) ≤ more * υ.high
   taken : less * υ.low ≤ (y - x) * τ.high
   once : more + part_up y x τ.high υ.low ≤ part_down x y τ.low υ.high + less + 1
 
-rounded : (x y : ℕ) (τ υ : Ends) → 1 ≤ υ.high → Rounded x y τ υ
+rounded : (x y : ℕ) (τ υ : Ends ℕ) → 1 ≤ υ.high → Rounded x y τ υ
 unfolding part_up part_down
 rounded x y τ υ some = elim (dec_le x y) [
   | yes h ↦
@@ -54,7 +55,7 @@ rounded x y τ υ some = elim (dec_le x y) [
       }
 ]
 
-module _ {n : ℕ} {τ υ : Ends} (share : Share n τ υ) where
+module _ {n : ℕ} {τ υ : Ends ℕ} (share : Share n τ υ) where
   -- τ's high end over υ's low one is above τ's low end over υ's high one by 2n/υ.low at most
   spread : τ.high * υ.high ≤ τ.low * υ.low + 2 * n * υ.high
   spread =
@@ -111,7 +112,7 @@ module _ {n : ℕ} {τ υ : Ends} (share : Share n τ υ) where
 
 -- ---- of a and b
 
-module _ (a b : SignedPair) {α β : Bound} {τ υ : Ends} {n d : ℕ} (p : SignedWithin a α) (q : SignedWithin b β)
+module _ (a b : SignedPair) {α β : Bound} {τ υ : Ends ℕ} {n d : ℕ} (p : SignedWithin a α) (q : SignedWithin b β)
     (near : Near d a b) (share : Share n τ υ) (k : ℕ) (few : d * (2 * n) ≤ k * υ.low) where
   -- neither is more than m wide
   pub interpolated_narrow : (m : ℕ) → α.width ≤ m → β.width ≤ m → m * (2 * n) < k * υ.low →

@@ -1,4 +1,5 @@
 -- What the code takes: from what is known of the pairs, and of each part.
+use Rattle.std.specs.Prelude.{ℕ}
 use mathlib.Core.Path.{◌≡◌}
 use Prim.Native.Nat.{ℕ, ◌+◌, ◌*◌, ◌-◌, ◌^◌, ◌≤◌, ◌<◌}
 use native.Mathlib.Nat.{mul-le-mul, mul-le-mul_left, div-le_of_le-mul, zero-mul, zero-div}
@@ -9,7 +10,7 @@ use Rattle.interval_theory.specs.Bound.{Bound, SignedWithin, Near}
 use Rattle.interpolation_theory.specs.Evaluation.{part_down, Share, PartDomain, InterpolationDomain}
 
 -- no end of a and no end of b are more than d apart
-pub interpolation_takes : (a b : SignedPair) {α β : Bound} {τ υ : Ends} {n d : ℕ} → SignedWithin a α →
+pub interpolation_takes : (a b : SignedPair) {α β : Bound} {τ υ : Ends ℕ} {n d : ℕ} → SignedWithin a α →
     SignedWithin b β → Near d a b → Share n τ υ → α.most < 2 ^ 60 → β.most < 2 ^ 60 → 2 * n ≤ υ.low →
     d * (υ.low + 2 * n) < 2 ^ 64 → InterpolationDomain a b τ υ
 interpolation_takes a b {τ = τ} {υ} {n} {d} p q near share hα hβ few small =
@@ -34,7 +35,7 @@ takes x y t u d s some few rise most small low =
     omega (arith, mul-le-mul rise most, double)
 
 -- the two parts of the low end, and the two of the high one
-module _ {a b : SignedPair} {t u : Ends} (h : InterpolationDomain a b t u) where
+module _ {a b : SignedPair} {t u : Ends ℕ} (h : InterpolationDomain a b t u) where
   pub rise_takes : PartDomain (b.gain.low + a.loss.high) (a.gain.low + b.loss.high) t.low u.high
   rise_takes =
       takes _ _ _ _ _ t.high (omega arith) (omega arith) (omega arith) h.order h.rise (omega arith)

@@ -1,4 +1,5 @@
 -- The value between two rows lies between the computed ends.
+use Rattle.std.specs.Prelude.{ℕ}
 use mathlib.Core.Path.{◌≡◌, refl, ap}
 use Prim.Native.Nat.{ℕ, ◌+◌, ◌*◌, ◌-◌, ◌≤◌}
 use native.Mathlib.Nat.{mul-le-mul_left, mul-le-mul_right, le_of_mul-le-mul_right, div-mul-le_self, le_trans, add_comm}
@@ -83,14 +84,14 @@ module _ {x y r : Fraction} {N D p q c d s t e f : ℕ} (k : Is r N 0 D) (h : Li
 -- ---- r = t/u, by t's ends and u's
 
 -- N/D, between τ's low end over υ's high one and τ's high end over υ's low one
-record Ratio (r : Fraction) (τ υ : Ends) : Type 0 where
+record Ratio (r : Fraction) (τ υ : Ends ℕ) : Type 0 where
   N : ℕ
   D : ℕ
   is : Is r N 0 D
   low : τ.low * D ≤ N * υ.high
   high : N * υ.low ≤ τ.high * D
 
-ratio : {t u : Fraction} {τ υ : Ends} → Held t τ → Held u υ → 1 ≤ υ.low → Ratio (t *q recip_q u) τ υ
+ratio : {t u : Fraction} {τ υ : Ends ℕ} → Held t τ → Held u υ → 1 ≤ υ.low → Ratio (t *q recip_q u) τ υ
 ratio {t} {u} {τ} {υ} h k some =
     let above = above_zero u (<q-≤q_trans (lt_of zero-Is (units-Is υ.low 0) (omega arith)) k.from) in
     let o = le_as (units-Is τ.low 0) (is_self t) h.from in
@@ -122,13 +123,13 @@ up_enough x y t u h =
     (λ _. next ((x - y) * t) u h)
 
 -- the low end from p − q to s − t: what is added in it, and what is taken off
-abbrev gained : Ends → Ends → ℕ → ℕ → ℕ → ℕ → ℕ
+abbrev gained : Ends ℕ → Ends ℕ → ℕ → ℕ → ℕ → ℕ → ℕ
 gained τ υ p q s t = p + part_down (s + q) (p + t) τ.low υ.high
 
-abbrev lost : Ends → Ends → ℕ → ℕ → ℕ → ℕ → ℕ
+abbrev lost : Ends ℕ → Ends ℕ → ℕ → ℕ → ℕ → ℕ → ℕ
 lost τ υ p q s t = q + part_up (p + t) (s + q) τ.high υ.low + 1
 
-module _ {n : ℕ} {r : Fraction} {τ υ : Ends} (share : Share n τ υ) (ρ : Ratio r τ υ) where
+module _ {n : ℕ} {r : Fraction} {τ υ : Ends ℕ} (share : Share n τ υ) (ρ : Ratio r τ υ) where
   parts : (x y : ℕ) →
       part_down x y τ.low υ.high * ρ.D + y * ρ.N ≤ part_up y x τ.high υ.low * ρ.D + x * ρ.N
   unfolding part_down
@@ -181,7 +182,7 @@ module _ {n : ℕ} {r : Fraction} {τ υ : Ends} (share : Share n τ υ) (ρ : R
           omega (arith, parts (s + q) (p + t), over, ap (λ z. z * ρ.N) e, ap (λ z. z * ρ.D) e)
 
 -- x + (y − x) t/u
-pub interpolated_in : {x y t u : Fraction} (a b : SignedPair) {α : Bound} {τ υ : Ends} {n : ℕ} → LiesIn x a →
+pub interpolated_in : {x y t u : Fraction} (a b : SignedPair) {α : Bound} {τ υ : Ends ℕ} {n : ℕ} → LiesIn x a →
     LiesIn y b → Held t τ → Held u υ → SignedWithin a α → Share n τ υ → α.width * (2 * n) ≤ υ.low →
     x +q (y -q x) *q t /q u ∈ ends (interpolated_of a b τ υ).low (interpolated_of a b τ υ).high
 unfolding interpolated_of between_of ends ◌/q◌
@@ -191,7 +192,7 @@ interpolated_in {x} {y} {t} {u} a b {α} {τ} {υ} h j ht hu within share tight 
     let low = low_end share ρ h j within.gain within.loss α.width within.narrow tight in
     let high =
     low_end share ρ (lies_negated h) (lies_negated j) within.loss within.gain α.width (omega arith) tight in
-    let flipped : (f : Ends → Ends → ℕ → ℕ → ℕ → ℕ → ℕ) → ℕ =
+    let flipped : (f : Ends ℕ → Ends ℕ → ℕ → ℕ → ℕ → ℕ → ℕ) → ℕ =
     λ f. f τ υ a.loss.low a.gain.high b.loss.low b.gain.high in
     record {
       from = ≤q_trans low (≈q_≥q same);

@@ -1,9 +1,8 @@
 -- What is computed between two rows, in whole units of 10^-9, rounded outward: the low end from the two low ends, the
 -- high end from the two high ends. Callers go by the laws of proofs/, and never by this text.
-use Rattle.std.specs.Prelude.{cond, ℕ, ◌+◌, ◌*◌, ◌-◌, ◌/◌, ◌^◌, ◌≤◌, ◌<◌, leb, ltb}
+use Rattle.std.specs.Prelude.{cond, ℕ, ◌+◌, ◌*◌, ◌-◌, ◌/◌, ◌^◌, ◌≤◌, ◌<◌, leb, ltb, ℤ}
 use Rattle.interval_theory.specs.declared.Ends.{Ends}
 use Rattle.interval_theory.specs.declared.SignedPair.{SignedPair}
-use Rattle.interval_theory.specs.declared.SignedEnds.{SignedEnds}
 use Rattle.interval_theory.specs.Natural.{exactly}
 use Rattle.interval_theory.specs.Signed.{between_of}
 use Rattle.interpolation_theory.specs.declared.TwoRows.{TwoRows}
@@ -17,7 +16,7 @@ part_up above below t u = cond (leb above below) 0 ((above - below) * t / u + 1)
 
 -- a + (b − a) t/u. As t and u are anywhere between their ends, t/u may be a little above 1: the unit more on either
 -- side is for that
-unfoldable pub interpolated_of : SignedPair → SignedPair → Ends → Ends → SignedEnds
+unfoldable pub interpolated_of : SignedPair → SignedPair → Ends ℕ → Ends ℕ → Ends ℤ
 interpolated_of a b t u =
     let above : ℕ = b.gain.low + a.loss.high in
     let below : ℕ = a.gain.low + b.loss.high in
@@ -39,7 +38,7 @@ two_rows_of k last by_row = record { lower = cond (ltb k last) (by_row (last - 1
 -- ---- what t and u are
 
 -- neither is more than n wide, u is above zero, and t is not all above u: t/u is above 1 by 2n/u at most
-pub record Share (n : ℕ) (t u : Ends) : Type 0 where
+pub record Share (n : ℕ) (t u : Ends ℕ) : Type 0 where
   pub order : t.low ≤ t.high
   pub narrow : t.high ≤ t.low + n
   pub whole_order : u.low ≤ u.high
@@ -54,7 +53,7 @@ pub record PartDomain (above below t u : ℕ) : Type 0 where
   pub product : (above - below) * t < 2 ^ 64
   pub quotient : part_down above below t u < 2 ^ 62
 
-pub record InterpolationDomain (a b : SignedPair) (t u : Ends) : Type 0 where
+pub record InterpolationDomain (a b : SignedPair) (t u : Ends ℕ) : Type 0 where
   pub gain : a.gain.low ≤ a.gain.high
   pub loss : a.loss.low ≤ a.loss.high
   pub next_gain : b.gain.low ≤ b.gain.high

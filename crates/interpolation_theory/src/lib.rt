@@ -9,7 +9,7 @@ use interval_theory::{Ends, SignedPair};
 pub struct Neighbours {
     pub lower: u16,
     pub upper: u16,
-    pub whole: Ends,
+    pub whole: Ends<u64>,
 }
 
 // A period between those of two rows, in thousandths of a second, with ln(T/T1) and ln(T2/T1).
@@ -18,8 +18,8 @@ pub struct Step {
     pub period: u16,
     pub lower: u16,
     pub upper: u16,
-    pub part: Ends,
-    pub whole: Ends,
+    pub part: Ends<u64>,
+    pub whole: Ends<u64>,
 }
 
 // The values by two rows; where there is only one, it is the upper, and the lower is 0.

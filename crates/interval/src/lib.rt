@@ -9,12 +9,12 @@ ghost use Rattle.interval_theory.specs.Signed.{Moderate, TimesDomain, SmallerTha
 ghost use Rattle.interval_theory.specs.Signed.{between_of};
 ghost use Rattle.interval_theory.specs.Signed.{ends_of, lesser, greater, signed_hull_of};
 
-use interval_theory::{Ends, SignedEnds, SignedPair};
+use interval_theory::{Ends, SignedPair};
 use order::{max, min};
 use signed::difference;
 
 // c/20,000,000 of what lies between e's ends.
-pub fn multiple(c: u64, e: Ends) -> Ends
+pub fn multiple(c: u64, e: Ends<u64>) -> Ends<u64>
     requires { MultipleDomain c e }
     ensures { result ≡ multiple_of c e }
 {
@@ -25,7 +25,7 @@ pub fn multiple(c: u64, e: Ends) -> Ends
 }
 
 // What lies between a's ends times what lies between b's.
-pub fn product(a: Ends, b: Ends) -> Ends
+pub fn product(a: Ends<u64>, b: Ends<u64>) -> Ends<u64>
     requires { ProductDomain a b }
     ensures { result ≡ product_of a b }
 {
@@ -36,7 +36,7 @@ pub fn product(a: Ends, b: Ends) -> Ends
 }
 
 // What lies between a's ends over what lies between b's, which are above zero.
-pub fn quotient(a: Ends, b: Ends) -> Ends
+pub fn quotient(a: Ends<u64>, b: Ends<u64>) -> Ends<u64>
     requires { QuotientDomain a b }
     ensures { result ≡ quotient_of a b }
 {
@@ -47,7 +47,7 @@ pub fn quotient(a: Ends, b: Ends) -> Ends
 }
 
 // What lies between a's ends and what lies between b's, added.
-pub fn sum(a: Ends, b: Ends) -> Ends
+pub fn sum(a: Ends<u64>, b: Ends<u64>) -> Ends<u64>
     requires { SumDomain a b }
     ensures { result ≡ sum_of a b }
 {
@@ -58,7 +58,7 @@ pub fn sum(a: Ends, b: Ends) -> Ends
 }
 
 // From the lesser low end to the greater high end.
-pub fn hull(a: Ends, b: Ends) -> Ends
+pub fn hull(a: Ends<u64>, b: Ends<u64>) -> Ends<u64>
     ensures { result ≡ hull_of a b }
 {
     Ends {
@@ -90,7 +90,7 @@ pub fn minus(a: SignedPair, b: SignedPair) -> SignedPair
 }
 
 // A signed pair times what lies between e's ends.
-pub fn times(a: SignedPair, e: Ends) -> SignedPair
+pub fn times(a: SignedPair, e: Ends<u64>) -> SignedPair
     requires { TimesDomain a e }
     ensures { result ≡ times_of a e }
 {
@@ -101,11 +101,11 @@ pub fn times(a: SignedPair, e: Ends) -> SignedPair
 }
 
 // From a − b to c − d.
-pub fn between(a: u64, b: u64, c: u64, d: u64) -> SignedEnds
+pub fn between(a: u64, b: u64, c: u64, d: u64) -> Ends<i64>
     requires { (a < 2 ^ 63) × (b < 2 ^ 63) × (c < 2 ^ 63) × (d < 2 ^ 63) }
     ensures { result ≡ between_of a b c d }
 {
-    SignedEnds {
+    Ends {
         low: difference(a, b),
         high: difference(c, d),
     }
@@ -130,18 +130,18 @@ fn greater(a: i64, b: i64) -> i64
 }
 
 // From the lesser low end to the greater high end.
-pub fn signed_hull(a: SignedEnds, b: SignedEnds) -> SignedEnds
+pub fn signed_hull(a: Ends<i64>, b: Ends<i64>) -> Ends<i64>
     requires { SmallerThan (2 ^ 63) a × SmallerThan (2 ^ 63) b }
     ensures { result ≡ signed_hull_of a b }
 {
-    SignedEnds {
+    Ends {
         low: lesser(a.low, b.low),
         high: greater(a.high, b.high),
     }
 }
 
 // The ends of a signed pair.
-pub fn ends(a: SignedPair) -> SignedEnds
+pub fn ends(a: SignedPair) -> Ends<i64>
     requires { Moderate a }
     ensures { result ≡ ends_of a }
 {

@@ -1,5 +1,6 @@
 -- The bound of each step with pairs that are not below zero: one law for each, and what the code has to know for the
 -- step to fit.
+use Rattle.std.specs.Prelude.{ℕ}
 use Prim.Native.Nat.{ℕ, ◌+◌, ◌*◌, ◌-◌, ◌/◌, ◌^◌, ◌≤◌, ◌<◌}
 use native.Mathlib.Nat.{mul-le-mul, mul-le-mul_left, mul-le-mul_right, div-mul-le_self, lt-div-mul-add}
 use native.Mathlib.Nat.{le-div_iff_mul-le, div-lt_iff_lt-mul, le_refl, le_trans}
@@ -22,12 +23,12 @@ pub record Fits (α β : Bound) : Type 0 where
 pub fitting : {α β : Bound} → T (α fits β) → Fits α β
 fitting t = search (and_left, and_right, leb→le)
 
-pub wider : {e : Ends} {α β : Bound} → Within e α → Fits α β → Within e β
+pub wider : {e : Ends ℕ} {α β : Bound} → Within e α → Fits α β → Within e β
 wider z f = omega arith
 
 -- ---- a pair that is given, and equal ends
 
-pub pair_within : (e : Ends) → T (leb e.low e.high) → Within e (pair_bound e)
+pub pair_within : (e : Ends ℕ) → T (leb e.low e.high) → Within e (pair_bound e)
 pair_within e t = omega (arith, leb→le)
 
 pub exactly_within : {n : ℕ} (b : ℕ) → n ≤ b → Within (exactly n) (size 0 b)
@@ -53,7 +54,7 @@ divided x y w l m s h order narrow least most =
 
 -- ---- multiples
 
-module _ {c m : ℕ} (few : c ≤ m) {e : Ends} {β : Bound} (z : Within e β) where
+module _ {c m : ℕ} (few : c ≤ m) {e : Ends ℕ} {β : Bound} (z : Within e β) where
   pub multiple_takes : m * β.most < 2 ^ 63 → MultipleDomain c e
   multiple_takes h = omega (arith, mul-le-mul few z.most)
 
@@ -69,7 +70,7 @@ module _ {c m : ℕ} (few : c ≤ m) {e : Ends} {β : Bound} (z : Within e β) w
 
 -- ---- products
 
-module _ {x y : Ends} {α β : Bound} (p : Within x α) (q : Within y β) where
+module _ {x y : Ends ℕ} {α β : Bound} (p : Within x α) (q : Within y β) where
   pub product_takes : α.most * β.most < 2 ^ 63 → ProductDomain x y
   product_takes h = omega (arith, mul-le-mul p.most q.most)
 
@@ -104,7 +105,7 @@ module _ {x y : Ends} {α β : Bound} (p : Within x α) (q : Within y β) where
 
 -- ---- quotients
 
-module _ {x y : Ends} {α β : Bound} (p : Within x α) (q : Within y β) (some : 1 ≤ β.least) where
+module _ {x y : Ends ℕ} {α β : Bound} (p : Within x α) (q : Within y β) (some : 1 ≤ β.least) where
   pub quotient_takes : α.most * unit < 2 ^ 63 → QuotientDomain x y
   quotient_takes h = omega arith
 

@@ -1,5 +1,6 @@
 -- What the steps with pairs that are not below zero hold: of values between the ends of what goes in, the result lies
 -- between the ends of what comes out.
+use Rattle.std.specs.Prelude.{ℕ}
 use mathlib.Core.Path.{◌≡◌, ap}
 use Prim.Native.Nat.{ℕ, ◌+◌, ◌*◌, ◌/◌, ◌≤◌, ◌<◌}
 use native.Mathlib.Nat.{mul-le-mul, mul-le-mul_left, mul-le-mul_right, div-mul-le_self, lt-div-mul-add}
@@ -15,14 +16,14 @@ use Rattle.interval_theory.specs.declared.Ends.{Ends}
 use Rattle.interval_theory.specs.Natural.{unit, scale, multiple_of, product_of, quotient_of, sum_of, hull_of}
 
 -- x lies between e's ends
-abbrev pub Held : Fraction → Ends → Type 0
+abbrev pub Held : Fraction → Ends ℕ → Type 0
 Held x e = Lies x e.low 0 e.high 0
 
 -- −x does
-abbrev pub HeldBelow : Fraction → Ends → Type 0
+abbrev pub HeldBelow : Fraction → Ends ℕ → Type 0
 HeldBelow x e = Lies x 0 e.high 0 e.low
 
-pub natural_order : {x : Fraction} {e : Ends} → Held x e → e.low ≤ e.high
+pub natural_order : {x : Fraction} {e : Ends ℕ} → Held x e → e.low ≤ e.high
 natural_order {e = e} h =
     omega (arith, le_as (units-Is e.low 0) (units-Is e.high 0) (≤q_trans h.from h.to))
 
@@ -36,7 +37,7 @@ negated c x h = lies_same (neg_twice c x) (lies_negated h)
 
 -- c is u/s or −u/s, which is k/scale in absolute value, and x lies between e's ends or between their negatives
 module _ (u s k : ℕ) (same : u * scale ≡ k * s) where
-  pub multiple_held : {c x : Fraction} {e : Ends} → Held x e → Is c u 0 s → Held (c *q x) (multiple_of k e)
+  pub multiple_held : {c x : Fraction} {e : Ends ℕ} → Held x e → Is c u 0 s → Held (c *q x) (multiple_of k e)
   unfolding multiple_of
   multiple_held {e = e} h i =
       let low : k * e.low / scale * s ≤ u * e.low =
@@ -46,17 +47,17 @@ module _ (u s k : ℕ) (same : u * scale ≡ k * s) where
       let o = mul-le-mul_left u (natural_order h) in
       lies_multiple i h _ _ _ _ (omega arith) (omega arith) (omega arith) (omega arith)
 
-  pub minus_held : {c x : Fraction} {e : Ends} → Held x e → Is c 0 u s → HeldBelow (c *q x) (multiple_of k e)
+  pub minus_held : {c x : Fraction} {e : Ends ℕ} → Held x e → Is c 0 u s → HeldBelow (c *q x) (multiple_of k e)
   minus_held {c} {x} h i = negated c x (multiple_held h (neg-Is i))
 
-  pub multiple_below : {c x : Fraction} {e : Ends} → HeldBelow x e → Is c u 0 s → HeldBelow (c *q x) (multiple_of k e)
+  pub multiple_below : {c x : Fraction} {e : Ends ℕ} → HeldBelow x e → Is c u 0 s → HeldBelow (c *q x) (multiple_of k e)
   multiple_below {c} {x} h i = negated c x (lies_same (neg_swap c x) (multiple_held (lies_negated h) i))
 
-  pub minus_below : {c x : Fraction} {e : Ends} → HeldBelow x e → Is c 0 u s → Held (c *q x) (multiple_of k e)
+  pub minus_below : {c x : Fraction} {e : Ends ℕ} → HeldBelow x e → Is c 0 u s → Held (c *q x) (multiple_of k e)
   minus_below {c} {x} h i = negated c x (multiple_below h (neg-Is i))
 
 -- both ends of x, which may be below zero, times both ends of y
-module _ {x y : Fraction} {lu ld hu hd : ℕ} {e : Ends} (h : Lies x lu ld hu hd) (k : Held y e) (gains : lu ≤ hu)
+module _ {x y : Fraction} {lu ld hu hd : ℕ} {e : Ends ℕ} (h : Lies x lu ld hu hd) (k : Held y e) (gains : lu ≤ hu)
     (losses : hd ≤ ld) where
   pub product_lies : (p q r s : ℕ) → p * unit ≤ lu * e.low → ld * e.high ≤ q * unit → hu * e.high ≤ r * unit →
       s * unit ≤ hd * e.low → Lies (x *q y) p q r s
@@ -77,18 +78,18 @@ module _ {x y : Fraction} {lu ld hu hd : ℕ} {e : Ends} (h : Lies x lu ld hu hd
           let high = at e.high o (omega arith) in
           lies_multiple (units-Is g l) k p q r s (omega arith) (omega arith) (omega arith) (omega arith)
 
-pub product_held : {x y : Fraction} {a b : Ends} → Held x a → Held y b → Held (x *q y) (product_of a b)
+pub product_held : {x y : Fraction} {a b : Ends ℕ} → Held x a → Held y b → Held (x *q y) (product_of a b)
 unfolding product_of
 product_held h k =
     product_lies h k (natural_order h) (omega arith) _ _ _ _ (omega arith) (omega arith) (omega arith) (omega arith)
 
-pub sum_held : {x y : Fraction} {a b : Ends} → Held x a → Held y b → Held (x +q y) (sum_of a b)
+pub sum_held : {x y : Fraction} {a b : Ends ℕ} → Held x a → Held y b → Held (x +q y) (sum_of a b)
 unfolding sum_of
 sum_held h k = lies_sum h k
 
 -- ---- one over what lies between two ends above zero, and a quotient
 
-module _ {y : Fraction} {b : Ends} (k : Held y b) (some : 0 < b.low) where
+module _ {y : Fraction} {b : Ends ℕ} (k : Held y b) (some : 0 < b.low) where
   turned : Above y
   turned = above_zero y (<q-≤q_trans (lt_of zero-Is (units-Is b.low 0) (omega arith)) k.from)
 
@@ -103,13 +104,13 @@ module _ {y : Fraction} {b : Ends} (k : Held y b) (some : 0 < b.low) where
       let p = le_as (units-Is b.low 0) turned.is k.from in
       omega (arith, mul-le-mul_left u p, mul-le-mul_right y.den g)
 
-  pub recip_held : (r : Ends) → r.low * b.high ≤ unit * unit → unit * unit ≤ r.high * b.low → Held (recip_q y) r
+  pub recip_held : (r : Ends ℕ) → r.low * b.high ≤ unit * unit → unit * unit ≤ r.high * b.low → Held (recip_q y) r
   recip_held r low high = record {
     from = le_of (units-Is r.low 0) turned.turned (omega (arith, at_most r.low unit low));
     to = le_of turned.turned (units-Is r.high 0) (omega (arith, at_least r.high unit high));
   }
 
-pub quotient_held : {x y : Fraction} {a b : Ends} → Held x a → Held y b → 0 < b.low → Held (x /q y) (quotient_of a b)
+pub quotient_held : {x y : Fraction} {a b : Ends ℕ} → Held x a → Held y b → 0 < b.low → Held (x /q y) (quotient_of a b)
 unfolding quotient_of ◌/q◌
 quotient_held {x} {y} {a} {b} h k some =
     let low = at_most k some _ a.low (div-mul-le_self (a.low * unit) b.high) in
@@ -120,10 +121,10 @@ quotient_held {x} {y} {a} {b} h k some =
 
 -- ---- hulls
 
-pub hull_left : {x : Fraction} {a : Ends} (b : Ends) → Held x a → Held x (hull_of a b)
+pub hull_left : {x : Fraction} {a : Ends ℕ} (b : Ends ℕ) → Held x a → Held x (hull_of a b)
 unfolding hull_of
 hull_left b h = lies_wider h _ _ _ _ (omega arith) (omega arith)
 
-pub hull_right : {x : Fraction} (a : Ends) {b : Ends} → Held x b → Held x (hull_of a b)
+pub hull_right : {x : Fraction} (a : Ends ℕ) {b : Ends ℕ} → Held x b → Held x (hull_of a b)
 unfolding hull_of
 hull_right a h = lies_wider h _ _ _ _ (omega arith) (omega arith)

@@ -1,4 +1,5 @@
 -- The bound of each step with signed pairs, and what it says of the ends.
+use Rattle.std.specs.Prelude.{ℕ, ℤ}
 use mathlib.Core.Path.{◌≡◌}
 use mathlib.Core.Bool.{Bool, cond}
 use mathlib.Core.Logic.{◌⊎◌, inl, inr}
@@ -13,7 +14,6 @@ use Rattle.toolbox_theory.proofs.Whole.{narrower, neg_is, sub_is, ≤ℤ_in, ≤
 use Rattle.signed_theory.proofs.Laws.{difference_small}
 use Rattle.interval_theory.specs.declared.Ends.{Ends}
 use Rattle.interval_theory.specs.declared.SignedPair.{SignedPair}
-use Rattle.interval_theory.specs.declared.SignedEnds.{SignedEnds}
 use Rattle.interval_theory.specs.Natural.{product_of, sum_of}
 use Rattle.interval_theory.specs.Signed.{Moderate, plus_of, minus_of, times_of, SmallerThan, between_of, ends_of}
 use Rattle.interval_theory.specs.Signed.{greater, signed_hull_of}
@@ -22,7 +22,7 @@ use Rattle.interval_theory.specs.Bound.{Near}
 use Rattle.interval_theory.proofs.NaturalBounds.{Fits, product_within}
 
 -- −2^53 is 2^53 in absolute value, and not below: no such end is smaller than 2^53
-pub minus_2_to_53 : (e : SignedEnds) → (e.low ≡ neg_ℤ (pos (2 ^ 53))) ⊎ (e.high ≡ neg_ℤ (pos (2 ^ 53))) →
+pub minus_2_to_53 : (e : Ends ℤ) → (e.low ≡ neg_ℤ (pos (2 ^ 53))) ⊎ (e.high ≡ neg_ℤ (pos (2 ^ 53))) →
     SmallerThan (2 ^ 53) e → ⊥
 minus_2_to_53 e (inl is) h = lt_irrefl (2 ^ 53) (rw is at h.low)
 minus_2_to_53 e (inr is) h = lt_irrefl (2 ^ 53) (rw is at h.high)
@@ -35,7 +35,7 @@ pub moderate : {a : SignedPair} {α : Bound} → SignedWithin a α → α.most <
 moderate z h = omega arith
 
 -- a gain and a loss, each with its bound
-pub pair_of : {x y : Ends} {α β : Bound} → Within x α → Within y β →
+pub pair_of : {x y : Ends ℕ} {α β : Bound} → Within x α → Within y β →
     SignedWithin (record { gain = x; loss = y }) (sum_bound α β)
 pair_of p q = omega arith
 
@@ -50,7 +50,7 @@ module _ {a b : SignedPair} {α β : Bound} (p : SignedWithin a α) (q : SignedW
 
 -- ---- products
 
-pub times_within : {a : SignedPair} {e : Ends} {α β : Bound} → SignedWithin a α → Within e β →
+pub times_within : {a : SignedPair} {e : Ends ℕ} {α β : Bound} → SignedWithin a α → Within e β →
     SignedWithin (times_of a e) (times_bound α β)
 unfolding times_of product_of sum_of
 times_within {a} {e} {α} {β} p q =
@@ -91,7 +91,7 @@ unfolding ends_of
 ends_small a n s h = between_small _ _ _ _ n (omega arith) (omega arith) (omega arith) (omega arith)
 
 -- what lies from −l to m lies from −i to n
-pub reaches_more : {l m : ℕ} {e : SignedEnds} (i n : ℕ) → l ≤ i → m ≤ n → Reaches l m e → Reaches i n e
+pub reaches_more : {l m : ℕ} {e : Ends ℤ} (i n : ℕ) → l ≤ i → m ≤ n → Reaches l m e → Reaches i n e
 unfolding up down
 reaches_more {l} {m} i n least most r = record {
   least = ≤ℤ_trans (neg_ℤ (pos l)) (≤ℤ_in (omega (arith, neg_is (pos l), neg_is (pos i)))) r.least;
@@ -108,7 +108,7 @@ either : {y z : ℤ} (b : Bool) (K : ℤ → Type 0) → K y → K z → K (cond
 either b K p q = by_test b K (λ _. p) (λ _. q)
 
 -- no end of either is more than w above any other
-pub signed_hull_narrow : (a b : SignedEnds) (w : ℕ) → a.high ≤ℤ (a.low +ℤ pos w) → a.high ≤ℤ (b.low +ℤ pos w) →
+pub signed_hull_narrow : (a b : Ends ℤ) (w : ℕ) → a.high ≤ℤ (a.low +ℤ pos w) → a.high ≤ℤ (b.low +ℤ pos w) →
     b.high ≤ℤ (a.low +ℤ pos w) → b.high ≤ℤ (b.low +ℤ pos w) →
     (signed_hull_of a b).high ≤ℤ ((signed_hull_of a b).low +ℤ pos w)
 unfolding signed_hull_of
@@ -117,7 +117,7 @@ signed_hull_narrow a b w aa ab ba bb =
     (either (le_z a.high b.high) (λ h. h ≤ℤ (a.low +ℤ pos w)) ba aa)
     (either (le_z a.high b.high) (λ h. h ≤ℤ (b.low +ℤ pos w)) bb ab)
 
-pub signed_hull_small : (a b : SignedEnds) (n : ℕ) → SmallerThan n a → SmallerThan n b →
+pub signed_hull_small : (a b : Ends ℤ) (n : ℕ) → SmallerThan n a → SmallerThan n b →
     SmallerThan n (signed_hull_of a b)
 unfolding signed_hull_of
 signed_hull_small a b n p q = record {

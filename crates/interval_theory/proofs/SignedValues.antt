@@ -1,4 +1,5 @@
 -- What the steps with signed pairs and with ends of either sign hold.
+use Rattle.std.specs.Prelude.{ℕ, ℤ}
 use Prim.Native.Nat.{◌+◌, ◌≤◌}
 use native.Mathlib.Omega.{arith}
 use lib.IntN.{ℤ}
@@ -13,7 +14,6 @@ use Rattle.exact_theory.proofs.FractionLaws.{over-Is, ≤q_refl, ≤q_trans, le_
 use Rattle.exact_theory.proofs.UnitLaws.{Lies, lies_ends, lies_sum, lies_difference}
 use Rattle.interval_theory.specs.declared.Ends.{Ends}
 use Rattle.interval_theory.specs.declared.SignedPair.{SignedPair}
-use Rattle.interval_theory.specs.declared.SignedEnds.{SignedEnds}
 use Rattle.interval_theory.specs.Natural.{unit, product_of, sum_of}
 use Rattle.interval_theory.specs.Signed.{plus_of, minus_of, times_of, between_of, ends_of, lesser, greater}
 use Rattle.interval_theory.specs.Signed.{signed_hull_of}
@@ -31,7 +31,7 @@ pub minus_lies : {x y : Fraction} {a b : SignedPair} → LiesIn x a → LiesIn y
 unfolding minus_of sum_of
 minus_lies h k = lies_difference h k
 
-pub times_lies : {x y : Fraction} {a : SignedPair} {e : Ends} → LiesIn x a → Held y e → a.gain.low ≤ a.gain.high →
+pub times_lies : {x y : Fraction} {a : SignedPair} {e : Ends ℕ} → LiesIn x a → Held y e → a.gain.low ≤ a.gain.high →
     a.loss.low ≤ a.loss.high → LiesIn (x *q y) (times_of a e)
 unfolding times_of product_of
 times_lies h k gains losses =
@@ -62,7 +62,7 @@ module _ (y z : ℤ) where
       by_test (le_z y z) (λ v. (units y ≤q units v) × (units z ≤q units v))
       (λ t. (units_rise y z (le_out y z t), ≤q_refl _)) (λ t. (≤q_refl _, units_rise z y (omega (arith, gt_out y z t))))
 
-module _ {x : Fraction} (a b : SignedEnds) where
+module _ {x : Fraction} (a b : Ends ℤ) where
   pub signed_hull_left : x ∈ ends a.low a.high → x ∈ ends (signed_hull_of a b).low (signed_hull_of a b).high
   unfolding signed_hull_of ends
   signed_hull_left h = search (≤q_trans, lesser_below a.low b.low, greater_above a.high b.high, h)

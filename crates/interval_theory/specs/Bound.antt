@@ -1,9 +1,8 @@
 -- Bounds that are computed: how far apart a pair's ends are, from where on it lies and up to where; and what each step
 -- makes of them. proofs/NaturalBounds and proofs/SignedBounds show it of each step.
-use Rattle.std.specs.Prelude.{Bool, ◌&&◌, ℕ, ◌+◌, ◌*◌, ◌-◌, ◌/◌, ◌≤◌, min, max, leb, pos, neg_ℤ, ◌≤ℤ◌}
+use Rattle.std.specs.Prelude.{Bool, ◌&&◌, ℕ, ◌+◌, ◌*◌, ◌-◌, ◌/◌, ◌≤◌, min, max, leb, pos, neg_ℤ, ◌≤ℤ◌, ℤ}
 use Rattle.interval_theory.specs.declared.Ends.{Ends}
 use Rattle.interval_theory.specs.declared.SignedPair.{SignedPair}
-use Rattle.interval_theory.specs.declared.SignedEnds.{SignedEnds}
 use Rattle.interval_theory.specs.Natural.{unit, scale}
 
 pub record Bound : Type 0 where
@@ -14,7 +13,7 @@ pub record Bound : Type 0 where
 -- ---- what a bound says
 
 -- of a pair that is not below zero
-pub record Within (e : Ends) (β : Bound) : Type 0 where
+pub record Within (e : Ends ℕ) (β : Bound) : Type 0 where
   pub order : e.low ≤ e.high
   pub narrow : e.high ≤ e.low + β.width
   pub least : β.least ≤ e.low
@@ -32,7 +31,7 @@ pub record SignedWithin (a : SignedPair) (β : Bound) : Type 0 where
 abbrev pub size : ℕ → ℕ → Bound
 size w b = record { width = w; least = 0; most = b }
 
-abbrev pub Sized : Ends → ℕ → ℕ → Type 0
+abbrev pub Sized : Ends ℕ → ℕ → ℕ → Type 0
 Sized e w b = Within e (size w b)
 
 abbrev pub SignedSized : SignedPair → ℕ → ℕ → Type 0
@@ -50,7 +49,7 @@ abbrev pub upward : ℕ → ℕ → ℕ
 upward n d = (n + (d - 1)) / d
 
 -- a pair that is given
-abbrev pub pair_bound : Ends → Bound
+abbrev pub pair_bound : Ends ℕ → Bound
 pair_bound e = record { width = e.high - e.low; least = e.low; most = e.high }
 
 -- a multiple, by a factor of at most c
@@ -102,7 +101,7 @@ pub record Ranges (l m : ℕ) (a : SignedPair) : Type 0 where
   pub most : a.gain.high ≤ a.loss.low + m
 
 -- and those of e do
-pub record Reaches (l m : ℕ) (e : SignedEnds) : Type 0 where
+pub record Reaches (l m : ℕ) (e : Ends ℤ) : Type 0 where
   pub least : neg_ℤ (pos l) ≤ℤ e.low
   pub most : e.high ≤ℤ pos m
 

@@ -5,7 +5,6 @@ use Rattle.std.proofs.Math.IntN.{sub_ℕ}
 use Rattle.std.specs.Int.Signed.{le_z}
 use Rattle.interval_theory.specs.declared.Ends.{Ends}
 use Rattle.interval_theory.specs.declared.SignedPair.{SignedPair}
-use Rattle.interval_theory.specs.declared.SignedEnds.{SignedEnds}
 use Rattle.interval_theory.specs.Natural.{product_of, sum_of}
 
 -- ---- signed pairs
@@ -25,29 +24,29 @@ unfoldable pub minus_of : SignedPair → SignedPair → SignedPair
 minus_of a b = record { gain = sum_of a.gain b.loss; loss = sum_of a.loss b.gain }
 
 -- a times what lies between the ends of e, which are not below zero
-pub record TimesDomain (a : SignedPair) (e : Ends) : Type 0 where
+pub record TimesDomain (a : SignedPair) (e : Ends ℕ) : Type 0 where
   pub gain : a.gain.low ≤ a.gain.high
   pub loss : a.loss.low ≤ a.loss.high
   pub order : e.low ≤ e.high
   pub gain_small : a.gain.high * e.high < 2 ^ 63
   pub loss_small : a.loss.high * e.high < 2 ^ 63
 
-unfoldable pub times_of : SignedPair → Ends → SignedPair
+unfoldable pub times_of : SignedPair → Ends ℕ → SignedPair
 times_of a e = record { gain = product_of a.gain e; loss = product_of a.loss e }
 
 -- ---- ends of either sign
 
 -- both ends are below n in absolute value
-pub record SmallerThan (n : ℕ) (e : SignedEnds) : Type 0 where
+pub record SmallerThan (n : ℕ) (e : Ends ℤ) : Type 0 where
   pub low : nat_abs e.low < n
   pub high : nat_abs e.high < n
 
 -- from a − b to c − d
-unfoldable pub between_of : ℕ → ℕ → ℕ → ℕ → SignedEnds
+unfoldable pub between_of : ℕ → ℕ → ℕ → ℕ → Ends ℤ
 between_of a b c d = record { low = sub_ℕ a b; high = sub_ℕ c d }
 
 -- those of a signed pair
-unfoldable pub ends_of : SignedPair → SignedEnds
+unfoldable pub ends_of : SignedPair → Ends ℤ
 ends_of a = between_of a.gain.low a.loss.high a.gain.high a.loss.low
 
 -- "the pair spans them all": from the lesser low end to the greater high end
@@ -57,5 +56,5 @@ lesser y z = cond (le_z y z) y z
 abbrev pub greater : ℤ → ℤ → ℤ
 greater y z = cond (le_z y z) z y
 
-unfoldable pub signed_hull_of : SignedEnds → SignedEnds → SignedEnds
+unfoldable pub signed_hull_of : Ends ℤ → Ends ℤ → Ends ℤ
 signed_hull_of a b = record { low = lesser a.low b.low; high = greater a.high b.high }

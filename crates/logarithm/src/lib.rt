@@ -47,7 +47,7 @@ fn mantissa_ln(y: u64) -> u64
 }
 
 // The ends of a scaled number's logarithm; its two parts pass in registers.
-fn scaled_ln(octave: u64, mantissa: u64) -> Ends
+fn scaled_ln(octave: u64, mantissa: u64) -> Ends<u64>
     requires { Normal (scaled_by octave mantissa) }
     ensures { result ≡ scaled_ln_of (scaled_by octave mantissa) }
 {
@@ -59,7 +59,7 @@ fn scaled_ln(octave: u64, mantissa: u64) -> Ends
 }
 
 // ln(a/b), for 1 ≤ b ≤ a < 2^29.
-pub fn ln(a: u64, b: u64) -> Ends
+pub fn ln(a: u64, b: u64) -> Ends<u64>
     requires { LnDomain a b }
     ensures value { result ≡ ln_of a b }
     ensures ln_ends { LnEnds a b result }
@@ -72,7 +72,7 @@ pub fn ln(a: u64, b: u64) -> Ends
 }
 
 // ln(a/100), for 100 < a < 2^29, as ln(a, 100) has it. The divisor is known here, so that no division is needed.
-pub fn ln_hundredths(a: u64) -> Ends
+pub fn ln_hundredths(a: u64) -> Ends<u64>
     requires { LnDomain a 100 × (100 < a) }
     ensures value { result ≡ ln_of a 100 }
     ensures ln_ends { LnEnds a 100 result }

@@ -1,4 +1,5 @@
 -- What `ln_of` and `root_of` promise (specs/Promise), and the order and the sizes that callers rest on.
+use Rattle.std.specs.Prelude.{ℕ}
 use mathlib.Core.Path.{◌≡◌, refl}
 use Prim.Native.Nat.{ℕ, ◌*◌, ◌-◌, ◌^◌, ◌≤◌, ◌<◌}
 use native.Mathlib.Omega.{arith}
@@ -24,7 +25,7 @@ use Rattle.logarithm_theory.proofs.Octave.{scales}
 use Rattle.logarithm_theory.proofs.Sum.{mantissa_ln, total}
 
 -- e are ends of the logarithm of a/b
-pub record Rounded (a b : ℕ) (e : Ends) : Type 0 where
+pub record Rounded (a b : ℕ) (e : Ends ℕ) : Type 0 where
   pub bounds : Bounds unit e.low e.high a b
   pub sized : Sized e ln_width ln_most
 
@@ -52,7 +53,7 @@ ln_of_promise {a} {b} d =
     }
 
 -- every pair of which a contract says `r ≡ ln_of a b` keeps the promise
-pub ln_ends_lem : {a b : ℕ} {r : Ends} → LnDomain a b → r ≡ ln_of a b → (r ≡ ln_of a b) × LnEnds a b r
+pub ln_ends_lem : {a b : ℕ} {r : Ends ℕ} → LnDomain a b → r ≡ ln_of a b → (r ≡ ln_of a b) × LnEnds a b r
 ln_ends_lem d e = (e, rw e (ln_of_promise d))
 
 pub root_of_promise : (X : ℕ) → RootEnds X (root_of X)

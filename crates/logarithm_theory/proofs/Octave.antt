@@ -1,4 +1,5 @@
 -- The scaled number of a/b, from the leading zeros of the quotient.
+use Rattle.std.specs.Prelude.{ℕ}
 use mathlib.Core.Path.{◌≡◌}
 use Prim.Native.Nat.{ℕ, suc, ◌+◌, ◌*◌, ◌-◌, ◌/◌, ◌^◌, ◌≤◌, ◌<◌}
 use native.Mathlib.Nat.{mul-le-mul_right, div-mul-le_self, lt-div-mul-add, le-div_iff_mul-le, div-lt_iff_lt-mul}
@@ -59,6 +60,6 @@ scales {a} {b} d =
     omega (arith, div-mul-le_self (a * 2 ^ 35) b, lt-div-mul-add {a = a * 2 ^ 35} d.least)
 
 -- the ends of the logarithm of an unequal pair are those of the scaled quotient
-pub unequal : {e : Ends} (a b : ℕ) → (a ≡ b → ⊥) → e ≡ scaled_ln_of (scaled_of a b) → e ≡ ln_of a b
+pub unequal : {e : Ends ℕ} (a b : ℕ) → (a ≡ b → ⊥) → e ≡ scaled_ln_of (scaled_of a b) → e ≡ ln_of a b
 unfolding ln_of
 unequal a b h e = rw (ne_eqb a b h) e

@@ -54,17 +54,17 @@ abbrev pub slack : ℕ
 slack = 4304
 
 -- the ends of a scaled number's logarithm, in units of 10^-9
-unfoldable pub scaled_ln_of : Scaled → Ends
+unfoldable pub scaled_ln_of : Scaled → Ends ℕ
 scaled_ln_of s =
     let sum : ℕ = s.octave * ln2 + mantissa_ln_of s.mantissa in
     record { low = sum / 4096; high = (sum + 23 * s.octave + slack) / 4096 }
 
 -- the ends for equal a and b
-abbrev pub both_zero : Ends
+abbrev pub both_zero : Ends ℕ
 both_zero = record { low = 0; high = 0 }
 
 -- the ends of ln(a/b)
-unfoldable pub ln_of : ℕ → ℕ → Ends
+unfoldable pub ln_of : ℕ → ℕ → Ends ℕ
 ln_of a b = cond (eqb a b) both_zero (scaled_ln_of (scaled_of a b))
 
 -- ---- √X

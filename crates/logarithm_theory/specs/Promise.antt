@@ -21,7 +21,7 @@ abbrev pub ln_width : ℕ
 ln_width = 2
 
 -- document 01: the logarithm pairs "enclose in this sense", at every fineness; "Equal a and b give 0 and 0"
-pub record LnEnds (a b : ℕ) (e : Ends) : Type 0 where
+pub record LnEnds (a b : ℕ) (e : Ends ℕ) : Type 0 where
   pub encloses : Encloses (ends (pos e.low) (pos e.high)) (ln a b)
   pub narrow : e.high ≤ e.low + ln_width
   pub same : a ≡ b → (e.low ≡ 0) × (e.high ≡ 0)

@@ -1,5 +1,6 @@
 -- From the ends of a logarithm to two whole numbers of millionths: what is promised of these (`FromEnds`) follows from
 -- the ends alone.
+use Rattle.std.specs.Prelude.{ℤ}
 use mathlib.Core.Path.{◌≡◌, refl}
 use Prim.Native.Nat.{ℕ, suc, ◌+◌, ◌*◌, ◌-◌, ◌≤◌, ◌<◌}
 use native.Mathlib.Decide.{dec_le}
@@ -12,7 +13,7 @@ use Rattle.toolbox_theory.specs.Whole.{up, down}
 use Rattle.toolbox_theory.proofs.Whole.{le_in, le_out, gt_out, add_is}
 use Rattle.exact_theory.specs.Formula.{Formula, eval, ends}
 use Rattle.exact_theory.proofs.FractionLaws.{≤q_trans}
-use Rattle.interval_theory.specs.declared.SignedEnds.{SignedEnds}
+use Rattle.interval_theory.specs.declared.Ends.{Ends}
 use Rattle.interval_theory.specs.Natural.{unit}
 use Rattle.interval_theory.specs.Signed.{between_of}
 use Rattle.interval_theory.proofs.SignedValues.{units_rise}
@@ -51,7 +52,7 @@ ceiling_most a z h = omega (arith, soon (at_least z) (most - a) (suc a))
 
 -- ---- what is promised of the two numbers from ends that enclose f
 
-module _ {f : Formula} (e : SignedEnds) (c : Convertible f e) where
+module _ {f : Formula} (e : Ends ℤ) (c : Convertible f e) where
   abbrev a : ℕ
   a = greatest_passing (up_to e.low) most
 
@@ -131,5 +132,5 @@ module _ {f : Formula} (e : SignedEnds) (c : Convertible f e) where
   }
 
 -- every two numbers of which a contract says `m ≡ millionths_from e` keep it
-pub from_ends : {m : Millionths} (e : SignedEnds) → m ≡ millionths_from e → (m ≡ millionths_from e) × FromEnds e m
+pub from_ends : {m : Millionths} (e : Ends ℤ) → m ≡ millionths_from e → (m ≡ millionths_from e) × FromEnds e m
 from_ends e same = (same, λ f c. rw same (converts e c))

@@ -1,4 +1,5 @@
 -- The ends of ln(k/10^6): they enclose it, and those of a greater k are above those of a lesser one.
+use Rattle.std.specs.Prelude.{ℤ}
 use mathlib.Core.Path.{◌≡◌}
 use Prim.Native.Nat.{ℕ, ◌+◌, ◌*◌, ◌-◌, ◌^◌, ◌≤◌, ◌<◌}
 use native.Mathlib.Decide.{dec_lt}
@@ -12,7 +13,7 @@ use Rattle.exact_theory.specs.Pair.{◌∈◌}
 use Rattle.exact_theory.specs.Formula.{ln, ends, Encloses}
 use Rattle.exact_theory.proofs.Points.{value, Sound}
 use Rattle.exact_theory.proofs.UnitLaws.{in_order, lies_natural, lies_negated, lies_ends}
-use Rattle.interval_theory.specs.declared.SignedEnds.{SignedEnds}
+use Rattle.interval_theory.specs.declared.Ends.{Ends}
 use Rattle.interval_theory.specs.Natural.{unit}
 use Rattle.interval_theory.specs.Signed.{between_of}
 use Rattle.logarithm_theory.specs.Promise.{LnDomain, ln_width}
@@ -33,7 +34,7 @@ ln_encloses k some small =
     encloses (record {
       sound = (some, omega arith);
       held = λ σ known.
-          by_test (leb million k) (λ (e : SignedEnds). σ.ln_at k million ∈ ends e.low e.high)
+          by_test (leb million k) (λ (e : Ends ℤ). σ.ln_at k million ∈ ends e.low e.high)
           (λ t. lies_ends (lies_natural _ _ (known.ln_within (omega (arith, leb→le million k t)))))
           (λ t.
           let h = nleb→lt million k t in
@@ -44,7 +45,7 @@ ln_encloses k some small =
 -- ---- their order
 
 -- the low end of e is at least g above the high end of d
-abbrev pub Above : ℕ → SignedEnds → SignedEnds → Type 0
+abbrev pub Above : ℕ → Ends ℤ → Ends ℤ → Type 0
 Above g d e = up d.high + g + down e.low ≤ up e.low + down d.high
 
 between_above : (g a b c d p q r s : ℕ) → c + g + q ≤ p + d → Above g (between_of a b c d) (between_of p q r s)

@@ -2,7 +2,7 @@
 -- promises of specs/Promise, and never by this text.
 use Rattle.std.specs.Prelude.{Bool, cond, ℕ, zero, suc, ◌-◌, leb, ℤ}
 use Rattle.std.specs.Int.Signed.{le_z}
-use Rattle.interval_theory.specs.declared.SignedEnds.{SignedEnds}
+use Rattle.interval_theory.specs.declared.Ends.{Ends}
 use Rattle.interval_theory.specs.Signed.{between_of}
 use Rattle.logarithm_theory.specs.Evaluation.{ln_of}
 use Rattle.scenario_theory.specs.declared.Scenario.{Scenario}
@@ -16,13 +16,13 @@ use Rattle.millionths_theory.specs.declared.MillionthsAnswer.TheVariants as M
 use Rattle.millionths_theory.specs.Promise.{million}
 
 -- the engine's ends of ln(k/10^6) for k from 10^6 on, and of −ln(10^6/k) for k before it, of at least 1
-abbrev pub from_million : ℕ → SignedEnds
+abbrev pub from_million : ℕ → Ends ℤ
 from_million k = between_of (ln_of k million).low 0 (ln_of k million).high 0
 
-abbrev pub before_million : ℕ → SignedEnds
+abbrev pub before_million : ℕ → Ends ℤ
 before_million k = between_of 0 (ln_of million k).high 0 (ln_of million k).low
 
-unfoldable pub ln_millionths : ℕ → SignedEnds
+unfoldable pub ln_millionths : ℕ → Ends ℤ
 ln_millionths k = cond (leb million k) (from_million k) (before_million k)
 
 -- no median has more: 10^6 e^2.1 is less
@@ -57,7 +57,7 @@ ceiling_after a z = first_passing (at_least z) (most - a) (suc a)
 
 -- from the ends of a logarithm: the greatest a with ln(a/10^6) up to the low one, and the first b after it with
 -- ln(b/10^6) from the high one on
-unfoldable pub millionths_from : SignedEnds → Millionths
+unfoldable pub millionths_from : Ends ℤ → Millionths
 millionths_from e = let a : ℕ = (floor_of e.low).whole in record { low = a; high = ceiling_after a e.high }
 
 -- of an answer, and of a scenario

@@ -1,10 +1,10 @@
 -- What is promised of a median in millionths of g, whatever the engine computes: request W-203.
-use Rattle.std.specs.Prelude.{◌≡◌, List, [], ◌∷◌, ℕ, ◌+◌, ◌/◌, ◌≤◌, pos, ◌+ℤ◌, ◌≤ℤ◌}
+use Rattle.std.specs.Prelude.{◌≡◌, List, [], ◌∷◌, ℕ, ◌+◌, ◌/◌, ◌≤◌, pos, ◌+ℤ◌, ◌≤ℤ◌, ℤ}
 use Rattle.exact_theory.specs.Fraction.{Fraction, ◌≤q◌}
 use Rattle.exact_theory.specs.Pair.{◌∈◌}
 use Rattle.exact_theory.specs.Logarithm.{ln_pair}
 use Rattle.exact_theory.specs.Formula.{Formula, eval, Defined, Encloses, ends}
-use Rattle.interval_theory.specs.declared.SignedEnds.{SignedEnds}
+use Rattle.interval_theory.specs.declared.Ends.{Ends}
 use Rattle.scenario_theory.specs.declared.Scenario.{Scenario}
 use Rattle.engine_theory.specs.Models.{median}
 use Rattle.engine_theory.specs.Ranges.{median_most}
@@ -46,13 +46,13 @@ abbrev pub widest : ℕ
 widest = 4_000
 
 -- ends that enclose f, at most so far apart, and not above the most that a median's are
-pub record Convertible (f : Formula) (e : SignedEnds) : Type 0 where
+pub record Convertible (f : Formula) (e : Ends ℤ) : Type 0 where
   pub encloses : Encloses (ends e.low e.high) f
   pub narrow : e.high ≤ℤ (e.low +ℤ pos widest)
   pub few : e.high ≤ℤ pos median_most
 
 -- two numbers that come from the ends e: every f that these enclose so lies between the numbers
-abbrev pub FromEnds : SignedEnds → Millionths → Type 0
+abbrev pub FromEnds : Ends ℤ → Millionths → Type 0
 FromEnds e m = (f : Formula) → Convertible f e → MillionthsEnds f m.low m.high
 
 -- the number and the values of each case (document 01): 0 is no refusal, and "A refusal returns its number only"

@@ -1,7 +1,7 @@
 -- What the probes answer, for any numbers: the ends of logarithm, root and models where the arguments are taken, and
 -- none elsewhere.
-use Rattle.std.specs.Prelude.{Bool, false, cond, ℕ, ◌-◌, ◌^◌, eqb, leb, ltb, pos}
-use Rattle.interval_theory.specs.declared.SignedEnds.{SignedEnds}
+use Rattle.std.specs.Prelude.{Bool, false, cond, ℕ, ◌-◌, ◌^◌, eqb, leb, ltb, pos, ℤ}
+use Rattle.interval_theory.specs.declared.Ends.{Ends}
 use Rattle.logarithm_theory.specs.Evaluation.{ln_of, root_of}
 use Rattle.scenario_theory.specs.declared.Scenario.{Scenario}
 use Rattle.scenario_theory.specs.declared.Lookup.{Lookup}
@@ -39,7 +39,7 @@ probed_root x = cond (leb 536_870_912 x) (2 ^ 64 - 1) (root_of x)
 abbrev pub no_ends : ProbedEnds
 no_ends = record { low = pos 1; high = pos 0 }
 
-abbrev pub told : SignedEnds → ProbedEnds
+abbrev pub told : Ends ℤ → ProbedEnds
 told e = record { low = e.low; high = e.high }
 
 -- scenarios of each model that have its own distance alone: magnitude, distance, velocity, mechanism and period
@@ -54,7 +54,7 @@ unfoldable pub is_taken : ℕ → Scenario → Bool
 is_taken k s = cond (leb row_count k) false (eqb (refusal_of s) 0)
 
 -- e where they are
-abbrev pub where_taken : ℕ → Scenario → SignedEnds → ProbedEnds
+abbrev pub where_taken : ℕ → Scenario → Ends ℤ → ProbedEnds
 where_taken k s e = cond (is_taken k s) (told e) no_ends
 
 unfoldable pub probed_idriss : ℕ → ℕ → ℕ → ℕ → ℕ → ℕ → ProbedEnds

@@ -10,7 +10,7 @@ ghost use Rattle.probes.specs.Probe.{no_ends, told, probed_idriss};
 ghost use Rattle.probes.specs.Probe.{probed_idriss_sigma, probed_boore_atkinson, probed_boore_atkinson_sigma};
 ghost use Rattle.probes.specs.Probe.{probed_nonlinear, told_place, probed_place};
 
-use interval_theory::SignedEnds;
+use interval_theory::Ends;
 use scenario_theory::{Lookup, Projection, ProjectionDistance, Rupture, RuptureDistance, Scenario};
 
 // The ends of a logarithm. Where there are none, low is 1 and high 0.
@@ -120,7 +120,7 @@ fn none() -> ProbedEnds
     ProbedEnds { low: 1, high: 0 }
 }
 
-fn tell(e: SignedEnds) -> ProbedEnds
+fn tell(e: Ends<i64>) -> ProbedEnds
     requires { SmallerThan (2 ^ 53) e }
     ensures { result ≡ told e }
 {

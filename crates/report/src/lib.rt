@@ -10,7 +10,7 @@ ghost use Rattle.report_theory.specs.Steps.{head_bytes};
 
 use decimal::{decimal_length, put_decimal};
 use engine_theory::{Answer, Enclosure};
-use interval_theory::SignedEnds;
+use interval_theory::Ends;
 use report_theory::{Word, Words};
 
 fn split(z: i64) -> Word
@@ -22,7 +22,7 @@ fn split(z: i64) -> Word
     }
 }
 
-fn split_ends(e: SignedEnds) -> Words
+fn split_ends(e: Ends<i64>) -> Words
     ensures { result ≡ words_for e }
 {
     Words {

@@ -1,7 +1,7 @@
 -- What the private functions of report say to each other; no promise to callers rests on reading it.
 use Rattle.std.specs.Prelude.{◌≡◌, Bool, cond, List, [], ◌∷◌, ◌++◌, ℕ, ◌≤◌, length, ℤ, pos, nat_abs}
 use Rattle.std.specs.Int.Signed.{lt_z}
-use Rattle.interval_theory.specs.declared.SignedEnds.{SignedEnds}
+use Rattle.interval_theory.specs.declared.Ends.{Ends}
 use Rattle.report_theory.specs.declared.Word.{Word}
 use Rattle.report_theory.specs.declared.Words.{Words}
 use Rattle.report_theory.specs.Text.{decimal}
@@ -15,7 +15,7 @@ pub record Counted (bytes : List ℕ) (most n : ℕ) : Type 0 where
 abbrev pub word_of : ℤ → Word
 word_of z = record { minus = lt_z z (pos 0); abs = nat_abs z }
 
-abbrev pub words_for : SignedEnds → Words
+abbrev pub words_for : Ends ℤ → Words
 words_for e = record { low = word_of e.low; high = word_of e.high }
 
 -- a space and, below zero, the sign

@@ -1,4 +1,5 @@
 -- `ln_millionths` meets its contract.
+use Rattle.std.specs.Prelude.{ℕ}
 use mathlib.Core.Path.{◌≡◌, refl}
 use Prim.Native.Nat.{ℕ, ◌^◌, ◌<◌}
 use native.Mathlib.Omega.{arith}
@@ -13,7 +14,7 @@ use Rattle.antilogarithm.proofs.ln_millionths.Statement.{statement}
 use Rattle.antilogarithm.proofs.ln_millionths.Tie as tie
 
 -- both ends of a logarithm are small
-small : {a b : ℕ} {e : Ends} → LnDomain a b → e ≡ ln_of a b → (e.low < 2 ^ 63) × (e.high < 2 ^ 63)
+small : {a b : ℕ} {e : Ends ℕ} → LnDomain a b → e ≡ ln_of a b → (e.low < 2 ^ 63) × (e.high < 2 ^ 63)
 small d e = rw e (omega (arith, (ln_of_rounded d).sized))
 
 pub ln_millionths_spec : {M : Type 1} → statement M
