@@ -11,14 +11,14 @@ use Rattle.scenario_theory.specs.Distances.{given}
 use Rattle.toolbox_theory.specs.Lists.{among}
 use Rattle.scenario_theory.specs.Refusal.{Limits, idriss, boore_atkinson, beyond_periods, refusal_by}
 use Rattle.scenario_theory.specs.Refusal.{refusal_by_model, lacks_distance, projection_exceeds, refusal_of}
-use Rattle.scenario_theory.specs.Numbers.{number_of, with_number}
+use Rattle.scenario_theory.specs.Numbers.{refusal_number, with_number}
 
-by_place : (i : ℕ) → i < 15 → number_of (with_number (i + 1)) ≡ i + 1
+by_place : (i : ℕ) → i < 15 → refusal_number (with_number (i + 1)) ≡ i + 1
 unfolding all_below
-by_place i h = eqb→eq _ _ (below 15 (λ i. eqb (number_of (with_number (i + 1))) (i + 1)) tt i h)
+by_place i h = eqb→eq _ _ (below 15 (λ i. eqb (refusal_number (with_number (i + 1))) (i + 1)) tt i h)
 
 -- the number of the reason that has it
-pub numbered : (k : ℕ) → (k ≡ 0 → ⊥) → k ≤ 15 → number_of (with_number k) ≡ k
+pub numbered : (k : ℕ) → (k ≡ 0 → ⊥) → k ≤ 15 → refusal_number (with_number k) ≡ k
 numbered zero some h = absurd (some refl)
 numbered (suc i) some h = rw suc_is at (by_place i (omega (arith, h)))
   where

@@ -1,17 +1,19 @@
 -- What the checks of a scenario come to, for the code alone: the number of the first that it fails, or what an answer
 -- rests on.
-use Rattle.std.specs.Prelude.{◌≡◌, true, false, cond, ℕ, ◌≤◌, eqb, Option, Some, None, Result, Ok, Err}
+use Rattle.std.specs.Prelude.{◌≡◌, true, false, not, cond, List, [], ◌∷◌, ℕ, ◌≤◌, eqb, Option, Some, None}
+use Rattle.std.specs.Prelude.{Result, Ok, Err}
 use Rattle.toolbox_theory.specs.Lists.{among}
 use Rattle.scenario_theory.specs.declared.Scenario.{Scenario}
 use Rattle.scenario_theory.specs.declared.RuptureDistance.{RuptureDistance}
 use Rattle.scenario_theory.specs.declared.ProjectionDistance.{ProjectionDistance}
+use Rattle.scenario_theory.specs.declared.ModelLimits.{ModelLimits}
 use Rattle.scenario_theory.specs.declared.Place.{Place}
 use Rattle.scenario_theory.specs.declared.Basis.{Basis}
 use Rattle.scenario_theory.specs.declared.Basis.TheVariants as B
 use Rattle.scenario_theory.specs.declared.Refusal.{Refusal}
 use Rattle.scenario_theory.specs.declared.Refusal.TheVariants as E
 use Rattle.scenario_theory.specs.declared.RowPeriods.{RowPeriods}
-use Rattle.scenario_theory.specs.Checks.{unless_refused}
+use Rattle.scenario_theory.specs.Checks.{◌to◌, beyond, ◌when◌, ◌otherwise◌, unless_refused}
 use Rattle.scenario_theory.specs.Refusal.{Limits, idriss, boore_atkinson, beyond_periods, refusal_by, refusal_of}
 use Rattle.scenario_theory.specs.Numbers.{with_number}
 use Rattle.scenario_theory.specs.Rows.{idriss_row, boore_atkinson_row, place_by, row_list, periods_at, InTable}
@@ -31,6 +33,29 @@ scenario_with model magnitude rupture velocity mechanism period projection =
     }
 
 -- ---- the checks
+
+-- the limits of a model as the code has them, with the mechanism beside 0 to 3
+abbrev pub code_limits : Limits → ℕ → ModelLimits
+code_limits m mechanism =
+    record {
+      magnitude = (m.magnitude.low, m.magnitude.high);
+      distance = m.distance.high;
+      velocity = (m.velocity.low, m.velocity.high);
+      mechanism = mechanism;
+    }
+
+-- 2 to 5 by such limits
+unfoldable pub limit_number : ModelLimits → ℕ → ℕ → ℕ → ℕ → ℕ
+limit_number l M R Vs mechanism =
+    2 when beyond (l.magnitude.0 to l.magnitude.1) M otherwise
+    3 when beyond (0 to l.distance) R otherwise
+    4 when beyond (l.velocity.0 to l.velocity.1) Vs otherwise
+    5 when not (among (0 ∷ 1 ∷ 2 ∷ 3 ∷ l.mechanism ∷ []) mechanism)
+
+unfoldable pub limit_check : ModelLimits → ℕ → ℕ → ℕ → ℕ → Result (Unit {0}) Refusal
+limit_check l M R Vs mechanism =
+    let k : ℕ = limit_number l M R Vs mechanism in
+    unless_refused k (Ok tt) (Err (with_number k))
 
 -- 2 to 6 by the limits of a model, with what an answer rests on by the place of the period
 unfoldable pub check_by : Limits → (ℕ → ℕ) → (Place → Basis) → Scenario → Result Basis Refusal

@@ -4,22 +4,22 @@ use Rattle.std.specs.Prelude.{ℕ, ◌-◌, List, [], ◌∷◌, get_or}
 use Rattle.scenario_theory.specs.declared.Refusal.{Refusal}
 use Rattle.scenario_theory.specs.declared.Refusal.TheVariants as E
 
-abbrev pub number_of : Refusal → ℕ
-number_of E.Model = 1
-number_of E.Magnitude = 2
-number_of E.Distance = 3
-number_of E.Velocity = 4
-number_of E.Mechanism = 5
-number_of E.Period = 6
-number_of E.Truncated = 7
-number_of E.ReservedBit = 8
-number_of E.MissingField = 9
-number_of E.EmptyMap = 10
-number_of E.DefaultWritten = 11
-number_of E.BufferTooShort = 12
-number_of E.ProjectionExceedsRupture = 13
-number_of E.TooManyScenarios = 14
-number_of E.NoneAccepted = 15
+abbrev pub refusal_number : Refusal → ℕ
+refusal_number E.Model = 1
+refusal_number E.Magnitude = 2
+refusal_number E.Distance = 3
+refusal_number E.Velocity = 4
+refusal_number E.Mechanism = 5
+refusal_number E.Period = 6
+refusal_number E.Truncated = 7
+refusal_number E.ReservedBit = 8
+refusal_number E.MissingField = 9
+refusal_number E.EmptyMap = 10
+refusal_number E.DefaultWritten = 11
+refusal_number E.BufferTooShort = 12
+refusal_number E.ProjectionExceedsRupture = 13
+refusal_number E.TooManyScenarios = 14
+refusal_number E.NoneAccepted = 15
 
 -- in the order of their numbers, from 1 on
 abbrev pub reasons : List Refusal

@@ -2,6 +2,9 @@
 // is no code.
 #![tactic(auto)]
 
+ghost use Rattle.std.specs.Prelude.{◌≡◌};
+ghost use Rattle.scenario_theory.specs.Numbers.{refusal_number};
+
 // In 0.01 km, to the rupture: the distance that Idriss reads.
 #[derive(Clone, Copy)]
 pub struct RuptureDistance(pub u16);
@@ -26,6 +29,15 @@ pub struct Scenario {
     // in 0.001 s; 0 is peak acceleration
     pub period: u16,
     pub projection: Option<ProjectionDistance>,
+}
+
+// What a model takes: from the first number to the second, a distance from 0 on, and the mechanisms 0 to 3 and one other.
+#[derive(Clone, Copy)]
+pub struct ModelLimits {
+    pub magnitude: (u16, u16),
+    pub distance: u16,
+    pub velocity: (u16, u16),
+    pub mechanism: u8,
 }
 
 // Where a period that is answered stands in the tables of a model: it has row k, or lies between rows k and k + 1.
@@ -71,6 +83,30 @@ pub enum Refusal {
     TooManyScenarios,
     // 15: no scenario of the sheet is accepted
     NoneAccepted,
+}
+
+impl From<Refusal> for u8 {
+    ghost from_gives = { λ e k. k ≡ refusal_number e };
+
+    fn from(e: Refusal) -> u8 {
+        match e {
+            Refusal::Model => 1,
+            Refusal::Magnitude => 2,
+            Refusal::Distance => 3,
+            Refusal::Velocity => 4,
+            Refusal::Mechanism => 5,
+            Refusal::Period => 6,
+            Refusal::Truncated => 7,
+            Refusal::ReservedBit => 8,
+            Refusal::MissingField => 9,
+            Refusal::EmptyMap => 10,
+            Refusal::DefaultWritten => 11,
+            Refusal::BufferTooShort => 12,
+            Refusal::ProjectionExceedsRupture => 13,
+            Refusal::TooManyScenarios => 14,
+            Refusal::NoneAccepted => 15,
+        }
+    }
 }
 
 // The periods of the two rows that a median rests on, equal where the period has a row of its own.
