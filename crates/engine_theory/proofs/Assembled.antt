@@ -104,7 +104,7 @@ module _ {M R Vs mechanism T k : ℕ} where
         moderate (boore_atkinson_sized mechanism d) (omega arith)
 
     pub boore_atkinson_at_row :
-        ◌≡◌ {A = Enclosure}
+        ◌≡◌ {A = Enclosure ℤ}
         record {
           median = ends_of (boore_atkinson_rows_of M R Vs mechanism k k).upper;
           sigma = sigma_of (total_at k) mechanism;
@@ -143,7 +143,7 @@ module _ {M R Vs mechanism T k : ℕ} where
 
     pub boore_atkinson_between_rows :
         let step = step_around boore_atkinson T in
-        ◌≡◌ {A = Enclosure}
+        ◌≡◌ {A = Enclosure ℤ}
         record {
           median = interpolated_of medians.lower medians.upper step.part step.whole;
           sigma = interpolated_of sigmas.lower sigmas.upper step.part step.whole;

@@ -6,8 +6,6 @@ use native.Mathlib.Omega.{arith}
 use lib.ListN.{length}
 use Rattle.scenario_theory.specs.declared.Scenario.{Scenario}
 use Rattle.scenario_theory.specs.Refusal.{refusal_of}
-use Rattle.engine_theory.specs.declared.Answer.{Answer}
-use Rattle.engine_theory.specs.declared.Answer.TheVariants as A
 use Rattle.engine_theory.specs.declared.FlatAnswer.{FlatAnswer}
 use Rattle.engine_theory.specs.Promise.{EnclosesBoth, AnswerPromise}
 use Rattle.engine_theory.specs.Evaluation.{answer_by}
@@ -19,9 +17,9 @@ pub none_enclose : {s : Scenario} → EnclosesBoth s [] → ⊥
 none_enclose h = absurd (omega (arith, ap length h.four))
 
 pub told_promised : {k : ℕ} {s : Scenario} (a : Answer) → AnswerPromise k s a → FlatPromise k s (told a)
-told_promised (A.Enclosed e) p =
+told_promised (Ok e) p =
     record { number = p.number; enclosed = p.enclosed; zeros = λ h. absurd (h (omega arith)) }
-told_promised (A.Refused k) p =
+told_promised (Err r) p =
     record { number = p.number; enclosed = λ z. absurd (none_enclose (p.enclosed z)); zeros = λ h. refl }
 
 -- every struct of which a contract says `r ≡ told ..` keeps it

@@ -2,8 +2,6 @@
 use Rattle.std.specs.Prelude.{ℕ, pos, ◌≤ℤ◌, ℤ}
 use Rattle.interval_theory.specs.declared.Ends.{Ends}
 use Rattle.interval_theory.specs.Bound.{Reaches}
-use Rattle.engine_theory.specs.declared.Answer.{Answer}
-use Rattle.engine_theory.specs.declared.Answer.TheVariants as A
 
 -- from −18.1 to 2.1, by a row and between rows; in truth from −13.97 to 1.13
 abbrev pub median_least : ℕ

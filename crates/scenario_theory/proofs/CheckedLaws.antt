@@ -298,16 +298,17 @@ module _ (s : Scenario) where
       (λ p. let z : ◌≡◌ {A = ℕ} 0 1 = cc in absurd (omega arith)) (unless_is (refusal_of s) e)
 
   -- the number of a check that fails is not 0
-  pub record Failed (k : ℕ) : Type 0 where
-    pub number : k ≡ refusal_of s
-    pub some : k ≡ 0 → ⊥
+  pub record Failed (e : Refusal) : Type 0 where
+    pub number : refusal_number e ≡ refusal_of s
+    pub reason : with_number (refusal_of s) ≡ e
+    pub some : refusal_of s ≡ 0 → ⊥
 
-  pub failed : {e : Refusal} → check_of s ≡ Err e → Failed (refusal_number e)
+  pub failed : {e : Refusal} → check_of s ≡ Err e → Failed e
   unfolding check_of
   failed {e} p =
       ⊎_elim (λ q. let d = based q.0 in let z : ◌≡◌ {A = ℕ} 0 1 = cc in absurd (omega arith))
       (λ q.
         let same : with_number (refusal_of s) ≡ e = cc in
         let number = sym (ap refusal_number same) ∙ numbered (refusal_of s) q.0 (refusal_numbered s) in
-        record { number = number; some = λ z. q.0 (sym number ∙ z) })
+        record { number = number; reason = same; some = q.0 })
       (unless_is (refusal_of s) p)
