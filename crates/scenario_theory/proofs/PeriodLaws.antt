@@ -8,7 +8,7 @@ use lib.Dec.{eqb}
 use lib.ListN.{get_or}
 use Rattle.toolbox_theory.specs.Lists.{among}
 use Rattle.toolbox_theory.proofs.ListLaws.{or_right}
-use Rattle.std.specs.Prelude.{Option, Some, None, Result, Err}
+use Rattle.std.specs.Prelude.{Option, Some, None, Result, Ok, Err}
 use Rattle.scenario_theory.specs.declared.Place.{Place}
 use Rattle.scenario_theory.specs.declared.Place.TheVariants as P
 use Rattle.scenario_theory.specs.declared.Refusal.{Refusal}
@@ -27,7 +27,7 @@ use Rattle.scenario_theory.proofs.RowLaws.{printed_itself, boore_atkinson_printe
 
 -- of a look-up
 abbrev pub periods_found : List ℕ → Option Place → Result RowPeriods Refusal
-periods_found list (Some p) = periods_at list p
+periods_found list (Some p) = Ok (periods_at list p)
 periods_found list None = Err E.Period
 
 abbrev pub Tabled : Option Place → Type 0

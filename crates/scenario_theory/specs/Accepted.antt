@@ -86,8 +86,8 @@ check_of s = unless_refused (refusal_of s) (basis_of s) (Err (with_number (refus
 
 -- the periods of the rows that they have found, and that the tables have these
 abbrev pub periods_on : Result Basis Refusal → Result RowPeriods Refusal
-periods_on (Ok (B.Idriss d p)) = periods_at (row_list 1) p
-periods_on (Ok (B.BooreAtkinson d p)) = periods_at (row_list 2) p
+periods_on (Ok (B.Idriss d p)) = Ok (periods_at (row_list 1) p)
+periods_on (Ok (B.BooreAtkinson d p)) = Ok (periods_at (row_list 2) p)
 periods_on (Err e) = Err e
 
 abbrev pub InTables : Result Basis Refusal → Type 0

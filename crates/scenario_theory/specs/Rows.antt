@@ -1,13 +1,11 @@
 -- The rows of the tables by number, for the code alone: the definitions take the row that is printed with a period.
 use Rattle.std.specs.Prelude.{◌≡◌, true, cond, ◌&&◌, List, ◌∷◌, ℕ, ◌+◌, ◌-◌, ◌<◌, eqb, ltb, length, get_or, Option, Some, None}
-use Rattle.std.specs.Prelude.{Result}
 use Rattle.toolbox_theory.specs.Lists.{among, place_in, count_below}
 use Rattle.scenario_theory.specs.declared.Place.{Place}
 use Rattle.scenario_theory.specs.declared.Place.TheVariants as P
 use Rattle.scenario_theory.specs.declared.RowPeriods.{RowPeriods}
-use Rattle.scenario_theory.specs.declared.Refusal.{Refusal}
 use Rattle.scenario_theory.specs.Refusal.{Limits, idriss, boore_atkinson}
-use Rattle.scenario_theory.specs.Neighbours.{has_row, neighbour_below, neighbour_above, idriss_printed, rows}
+use Rattle.scenario_theory.specs.Neighbours.{has_row, neighbour_below, neighbour_above, idriss_printed}
 
 -- how many there are of either model, counted from 0; the number itself stands for a period that has none
 abbrev pub row_count : ℕ
@@ -55,9 +53,9 @@ abbrev pub row_list : ℕ → List ℕ
 row_list model = cond (eqb model 1) idriss.periods (0 ∷ boore_atkinson.periods)
 
 -- the periods of the rows of a place, by a list of the periods of the rows; and that the list has them
-abbrev pub periods_at : List ℕ → Place → Result RowPeriods Refusal
-periods_at list (P.Row k) = rows (get_or list k 0) (get_or list k 0)
-periods_at list (P.Between k) = rows (get_or list k 0) (get_or list (k + 1) 0)
+abbrev pub periods_at : List ℕ → Place → RowPeriods
+periods_at list (P.Row k) = record { lower = get_or list k 0; upper = get_or list k 0 }
+periods_at list (P.Between k) = record { lower = get_or list k 0; upper = get_or list (k + 1) 0 }
 
 abbrev pub InTable : Place → Type 0
 InTable (P.Row k) = k < row_count
