@@ -11,6 +11,10 @@ use Rattle.scenario_theory.specs.Accepted.{basis_of}
 use Rattle.record_theory.specs.Layout.{layout, stands, absent_written}
 use Rattle.record_theory.specs.Outcome.{Reading, map_in, scenario_in, length_by, map_refusal, read_refusal}
 
+-- what a check answers, by its number
+abbrev pub check_with : ℕ → Result (Unit {0}) Refusal
+check_with k = unless_refused k (Ok tt) (Err (with_number k))
+
 -- reading's checks before the fields are taken, and those of the fields
 unfoldable pub front_refusal : List ℕ → ℕ
 front_refusal s =
@@ -41,7 +45,8 @@ based_reading x n (Err e) = Err e
 unfoldable pub based_reading_of : List ℕ → BasedReading
 based_reading_of s =
     let x : Scenario = scenario_in s in
-    unless_refused (read_refusal s) (based_reading x (length_by (map_in s)) (basis_of x)) (Err (with_number (read_refusal s)))
+    unless_refused (read_refusal s) (based_reading x (length_by (map_in s)) (basis_of x))
+    (Err (with_number (read_refusal s)))
 
 -- the same without it
 abbrev pub reading_in : BasedReading → Reading
