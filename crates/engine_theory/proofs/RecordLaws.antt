@@ -1,15 +1,16 @@
 -- Answers from a record: what is read is accepted, and is answered as from fields.
-use mathlib.Core.Path.{◌≡◌, sym, ap, ◌∙◌}
+use mathlib.Core.Path.{◌≡◌, refl, sym, ap, ◌∙◌}
 use mathlib.Core.List.{List}
 use mathlib.Core.Logic.{⊎_elim}
 use Prim.Native.Nat.{ℕ}
+use native.Mathlib.Omega.{arith}
 use Rattle.std.specs.Prelude.{ℤ, Ok, Err}
 use Rattle.scenario_theory.specs.declared.Scenario.{Scenario}
 use Rattle.scenario_theory.specs.declared.Refusal.{Refusal}
 use Rattle.scenario_theory.specs.declared.Basis.{Basis}
 use Rattle.scenario_theory.specs.Refusal.{refusal_of}
 use Rattle.scenario_theory.proofs.CheckLaws.{is_refused, unless_is, of_unless}
-use Rattle.record_theory.specs.Outcome.{scenario_in, read_refusal, read_of, rest_at}
+use Rattle.record_theory.specs.Outcome.{map_in, scenario_in, length_by, read_refusal, read_of, rest_at}
 use Rattle.record_theory.specs.Steps.{based_reading_of}
 use Rattle.record_theory.proofs.ReadingLaws.{read_numbered, accepted, read_as, not_read, read_of_lem, based_read}
 use Rattle.engine_theory.specs.declared.Enclosure.{Enclosure}
@@ -38,7 +39,7 @@ module _ (s : List ℕ) where
   pub next_refused : {r : Refusal} → based_reading_of s ≡ Err r → Err r ≡ next_of s
   unfolding next_of
   next_refused e =
-      let r = not_read s (sym (read_of_lem s e).0) in ap Err (sym r.reason) ∙ is_refused (read_refusal s) _ _ r.some
+      let r = not_read s _ (sym (read_of_lem s e).0) in ap Err (sym r.reason) ∙ is_refused (read_refusal s) _ _ r.some
 
   -- the answer in it is the answer from the record, and its length that of what is read
 
@@ -66,7 +67,7 @@ module _ (s : List ℕ) where
 
   pub record_refused : {r : Refusal} → read_of s ≡ Err r → Err r ≡ record_answer_of s
   unfolding record_answer_of answer_by
-  record_refused e = let r = not_read s e in ap Err (sym r.reason) ∙ is_refused (read_refusal s) _ _ r.some
+  record_refused e = let r = not_read s _ e in ap Err (sym r.reason) ∙ is_refused (read_refusal s) _ _ r.some
 
   -- ---- what an answer with the record's length says of the bytes
 
@@ -76,8 +77,14 @@ module _ (s : List ℕ) where
 
   pub next_read : {a : Enclosure ℤ} {n : ℕ} → next_of s ≡ Ok (a, n) → NextRead a n
   unfolding next_of read_of answer_of answer_by
-  next_read e =
-      ⊎_elim (λ p. record { read = cc; answer = cc (read_accepted p.0) }) (λ p. record { read = cc; answer = cc })
+  next_read {a} {n} e =
+      ⊎_elim
+      (λ p.
+        let both : ◌≡◌ {A = Enclosure ℤ × ℕ} (enclosure_of (scenario_in s), length_by (map_in s)) (a, n) = cc in
+        let same = ap (λ x. x.0) both in
+        let size = ap (λ x. x.1) both in
+        record { read = rw (p.0, size) refl; answer = rw (read_accepted p.0, same) refl })
+      (λ p. let z : ◌≡◌ {A = ℕ} 0 1 = cc in absurd (omega arith))
       (unless_is (read_refusal s) e)
 
   pub next_not_read : {r : Refusal} → next_of s ≡ Err r → read_of s ≡ Err r

@@ -173,22 +173,23 @@ read_as s x n e =
     (λ p q. let z : ◌≡◌ {A = ℕ} 0 1 = cc in absurd (omega arith)) e
 
 -- s is refused with k, which is not 0
-pub record NotRead (s : List ℕ) (k : ℕ) : Type 0 where
-  pub number : read_refusal s ≡ k
-  pub some : k ≡ 0 → ⊥
+pub record NotRead (s : List ℕ) (e : Refusal) : Type 0 where
+  pub number : read_refusal s ≡ refusal_number e
+  pub reason : with_number (read_refusal s) ≡ e
+  pub some : read_refusal s ≡ 0 → ⊥
   pub place : rest_at s ≡ 0
   pub rest : rest_of s ≡ []
 
-pub not_read : (s : List ℕ) (e : Refusal) → read_of s ≡ Err e → NotRead s (refusal_number e)
+pub not_read : (s : List ℕ) (e : Refusal) → read_of s ≡ Err e → NotRead s e
 unfolding read_of rest_at rest_of
 not_read s e =
-    by_number (λ r. r ≡ Err e → NotRead s (refusal_number e)) (read_refusal s)
+    by_number (λ r. r ≡ Err e → NotRead s e) (read_refusal s)
     (λ p q. let z : ◌≡◌ {A = ℕ} 0 1 = cc in absurd (omega arith))
     (λ p q. let same : with_number (read_refusal s) ≡ e = cc in
-    let number = sym (numbered (read_refusal s) p (read_numbered s)) ∙ ap refusal_number same in
     record {
-      number = number;
-      some = λ z. p (number ∙ z);
+      number = sym (numbered (read_refusal s) p (read_numbered s)) ∙ ap refusal_number same;
+      reason = same;
+      some = p;
       place = sym (is_refused (read_refusal s) _ _ p);
       rest = sym (is_refused (read_refusal s) _ _ p);
     })
