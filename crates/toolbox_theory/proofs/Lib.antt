@@ -4,3 +4,5 @@ pub mod ListLaws
 pub mod Places
 pub mod Found
 pub mod Results
+pub mod Searched
+pub mod Clamped
