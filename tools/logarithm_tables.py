@@ -44,11 +44,13 @@ def grouped(n):
 
 
 def code(name, comment, rows):
-    lines = ["", f"// {comment}", f"pub fn {name}(i: u64) -> Factor", f"    ensures {{ result ≡ {name}_at i }}", "{", "    match i {"]
-    for i, (by, logarithm) in enumerate(rows):
-        place = "_" if i == len(rows) - 1 else i
-        lines += [f"        {place} => Factor {{", f"            by: {grouped(by)},", f"            logarithm: {grouped(logarithm)},", "        },"]
-    return lines + ["    }", "}"]
+    last = len(rows) - 1
+    lines = ["", f"// {comment}", "#[rattlefmt::skip]"]
+    lines += [f"static {name.upper()}: [Factor; {len(rows)}] = ["]
+    lines += [f"    Factor {{ by: {grouped(by)}, logarithm: {grouped(logarithm)} }}," for by, logarithm in rows]
+    lines += ["];", "", "// The entry at i, and past the end the last.", f"pub fn {name}(i: u64) -> Factor"]
+    lines += [f"    ensures {{ result ≡ {name}_at i }}", "{", f"    let place = i.min({last}) as usize;"]
+    return lines + [f"    {name.upper()}[place]", "}"]
 
 
 def definition(name, comment, rows):
@@ -60,30 +62,25 @@ def definition(name, comment, rows):
 
 
 def proof(name, rows):
-    lines = [
-        "-- Written by tools/logarithm_tables.py.",
-        f"-- `{name}` meets its contract: an answer for each place of the table, and one for every place past them.",
+    last = "factor " + " ".join(map(grouped, rows[-1]))
+    return [
+        "-- Written by tools/logarithm_tables.py. A place past the end is read as the last.",
         "use mathlib.Core.Path.{refl}",
-        "use lib.ListN.{take}",
-        "use Rattle.toolbox_theory.proofs.Places.{last}",
         f"use Rattle.logarithm_tables_theory.specs.Tables.{{factor, {name}, {name}_at}}",
-        f"use Rattle.logarithm_tables.proofs.{name}.Statement.{{statement}}",
-        f"use Rattle.logarithm_tables.proofs.{name}.Tie as tie",
+        "use Rattle.logarithm_tables.proofs.Clamped.{clamped}",
+        f"use Rattle.logarithm_tables.proofs.{name}.Goals as goal",
         "",
-        f"pub {name}_spec : {{M : Type 1}} → statement M",
+        "pub returns : goal.returns",
         f"unfolding {name}_at",
-        f"{name}_spec =",
-        "    tie.close",
-        "    (tie.spec",
+        "returns c =",
+        "    rw c.min-place.ensures",
+        f"    (clamped {name} {len(rows) - 1} c.args.i (factor 0 0) ({last}) refl refl)",
     ]
-    by, logarithm = rows[-1]
-    n = len(rows) - 1
-    arms = [f"(λ c. rw c.in-{i}.is refl)" for i in range(n)]
-    lines += ["    " + " ".join(arms[i : i + 3]) for i in range(0, n, 3)]
-    return lines + [f"    (λ c. last (factor {grouped(by)} {grouped(logarithm)}) (take {n} {name}) c.before.args.i c.in_default.in_default-own.rest))"]
 
 
-CODE_HEAD = """// Written by tools/logarithm_tables.py. Two tables of factors that bring a number near 1, with the logarithm of each.
+CODE_HEAD = """// Written by tools/logarithm_tables.py. Two tables of factors that bring a number near 1, with the logarithm of
+// each. They are static, since the compiler copies a const array to the stack at each look-up; the layout would break
+// their rows.
 #![tactic(auto)]
 
 ghost use Rattle.std.specs.Prelude.{◌≡◌};
@@ -119,7 +116,7 @@ def files():
     for name, comment, rows in tables:
         source += code(name, comment, rows)
         definitions += definition(name, comment, rows)
-        written[f"logarithm_tables/proofs/{name}/Proof.antt"] = proof(name, rows)
+        written[f"logarithm_tables/proofs/{name}/Answers.antt"] = proof(name, rows)
     written["logarithm_tables/src/lib.rt"] = source
     written["logarithm_tables_theory/specs/Tables.antt"] = definitions
     return {name: "\n".join(lines) + "\n" for name, lines in written.items()}

@@ -1,11 +1,9 @@
 // The coefficients of Tables 3, 6, 7 and 8 as constant tables, a row for PGA and one for each period, with the printed
-// digits. The compiler stores a const array on the stack unless it knows every place that is read; it unrolls the loop
-// that looks for a row, and so reads constant data.
+// digits. The tables are static, since the compiler copies a const array to the stack at each look-up.
 #![tactic(auto)]
 
-ghost use Rattle.std.specs.Prelude.{◌≡◌, map, ◌<◌};
+ghost use Rattle.std.specs.Prelude.{◌≡◌, ◌<◌};
 ghost use Rattle.scenario_theory.specs.Rows.{row_count};
-ghost use Rattle.boore_atkinson_theory.specs.Tables.{table3, table6, table7, table8};
 ghost use Rattle.boore_atkinson_theory.specs.Rows.{row_at, total_at, pga};
 ghost use Rattle.boore_atkinson_theory.specs.Rows.{site_parts, distance_parts, magnitude_parts, total_parts};
 ghost use Rattle.boore_atkinson_theory.specs.Rows.{SiteLimits};
@@ -14,7 +12,7 @@ ghost use Rattle.boore_atkinson_theory.specs.Rows.{DistanceLimits, MagnitudeLimi
 use boore_atkinson_theory::{DistanceRow, MagnitudeRow, SiteRow, TotalRow};
 
 // Table 3: −blin, −b1, −b2.
-const TABLE_3: [SiteRow; 22] = [
+static TABLE_3: [SiteRow; 22] = [
     SiteRow(360, 640, 14),
     SiteRow(360, 640, 14),
     SiteRow(340, 630, 12),
@@ -39,29 +37,16 @@ const TABLE_3: [SiteRow; 22] = [
     SiteRow(650, 215, 0),
 ];
 
-fn table_3() -> [SiteRow; 22]
-    ensures { result ≡ map site_parts table3 }
-{
-    TABLE_3
-}
-
 // Row k of Table 3.
 pub fn site_at(k: usize) -> SiteRow
     requires { k < row_count }
     ensures { (result ≡ site_parts (row_at k).site) × SiteLimits result }
 {
-    let t = table_3();
-    let mut row = t[0];
-    for i in 1..t.len() {
-        if i == k {
-            row = t[i];
-        }
-    }
-    row
+    TABLE_3[k]
 }
 
 // Table 6: −c1, c2, −c2, −c3, h.
-const TABLE_6: [DistanceRow; 22] = [
+static TABLE_6: [DistanceRow; 22] = [
     DistanceRow(66050, 11970, 0, 1151, 135),
     DistanceRow(66220, 12000, 0, 1151, 135),
     DistanceRow(66600, 12280, 0, 1151, 135),
@@ -86,30 +71,17 @@ const TABLE_6: [DistanceRow; 22] = [
     DistanceRow(9824, 0, 13800, 191, 304),
 ];
 
-fn table_6() -> [DistanceRow; 22]
-    ensures { result ≡ map distance_parts table6 }
-{
-    TABLE_6
-}
-
 // Row k of Table 6.
 pub fn distance_at(k: usize) -> DistanceRow
     requires { k < row_count }
     ensures { (result ≡ distance_parts (row_at k).distance) × DistanceLimits result }
 {
-    let t = table_6();
-    let mut row = t[0];
-    for i in 1..t.len() {
-        if i == k {
-            row = t[i];
-        }
-    }
-    row
+    TABLE_6[k]
 }
 
 // Table 7: e1, −e1, e2, −e2, e3, −e3, e4, −e4, e5, −e6, e7, Mh. The layout would break its rows.
 #[rattlefmt::skip]
-const TABLE_7: [MagnitudeRow; 22] = [
+static TABLE_7: [MagnitudeRow; 22] = [
     MagnitudeRow(0, 53804, 0, 50350, 0, 75472, 0, 50970, 28805, 10164, 0, 675),
     MagnitudeRow(0, 52883, 0, 49429, 0, 74551, 0, 49966, 28897, 10019, 0, 675),
     MagnitudeRow(0, 52192, 0, 48508, 0, 73906, 0, 48895, 25144, 11006, 0, 675),
@@ -134,29 +106,16 @@ const TABLE_7: [MagnitudeRow; 22] = [
     MagnitudeRow(0, 215446, 0, 216137, 0, 253323, 0, 214635, 40387, 48492, 0, 850),
 ];
 
-fn table_7() -> [MagnitudeRow; 22]
-    ensures { result ≡ map magnitude_parts table7 }
-{
-    TABLE_7
-}
-
 // Row k of Table 7.
 pub fn magnitude_at(k: usize) -> MagnitudeRow
     requires { k < row_count }
     ensures { (result ≡ magnitude_parts (row_at k).magnitude) × MagnitudeLimits result }
 {
-    let t = table_7();
-    let mut row = t[0];
-    for i in 1..t.len() {
-        if i == k {
-            row = t[i];
-        }
-    }
-    row
+    TABLE_7[k]
 }
 
 // Table 8: σTU, σTM.
-const TABLE_8: [TotalRow; 22] = [
+static TABLE_8: [TotalRow; 22] = [
     TotalRow(566, 564),
     TotalRow(569, 566),
     TotalRow(569, 566),
@@ -181,25 +140,12 @@ const TABLE_8: [TotalRow; 22] = [
     TotalRow(735, 801),
 ];
 
-fn table_8() -> [TotalRow; 22]
-    ensures { result ≡ map total_parts table8 }
-{
-    TABLE_8
-}
-
 // Row k of Table 8.
 pub fn total_at(k: usize) -> TotalRow
     requires { k < row_count }
     ensures { result ≡ total_parts (total_at k) }
 {
-    let t = table_8();
-    let mut row = t[0];
-    for i in 1..t.len() {
-        if i == k {
-            row = t[i];
-        }
-    }
-    row
+    TABLE_8[k]
 }
 
 // The row PGA, at place 0.

@@ -1,17 +1,16 @@
 // The coefficients of Tables 2 and 3 as constant tables, a row for each period, with the printed digits, and which
-// table a magnitude takes. The compiler stores a const array on the stack unless it knows every place that is read; it
-// unrolls the loop that looks for a row, and so reads constant data.
+// table a magnitude takes. The tables are static, since the compiler copies a const array to the stack at each look-up.
 #![tactic(auto)]
 
-ghost use Rattle.std.specs.Prelude.{◌≡◌, cond, map, ◌<◌};
+ghost use Rattle.std.specs.Prelude.{◌≡◌, ◌<◌};
 ghost use Rattle.scenario_theory.specs.Rows.{row_count};
-ghost use Rattle.idriss_theory.specs.Tables.{table2, table3, takes_table3};
+ghost use Rattle.idriss_theory.specs.Tables.{takes_table3};
 ghost use Rattle.idriss_theory.specs.Rows.{row_at, parts, RowLimits};
 
 use idriss_theory::Row;
 
 // Table 2, M up to and including 6.75: α1, −α1, α2, −α2, α3, −α3, β1, −β2, −ξ, −γ, φ.
-const TABLE_2: [Row; 22] = [
+static TABLE_2: [Row; 22] = [
     Row(70887, 0, 2058, 0, 589, 0, 29935, 2287, 854, 27, 8),
     Row(71157, 0, 2058, 0, 589, 0, 29935, 2287, 854, 27, 8),
     Row(72087, 0, 2058, 0, 589, 0, 29935, 2287, 854, 27, 8),
@@ -37,7 +36,7 @@ const TABLE_2: [Row; 22] = [
 ];
 
 // Table 3, M above: the same columns.
-const TABLE_3: [Row; 22] = [
+static TABLE_3: [Row; 22] = [
     Row(90138, 0, 0, 794, 589, 0, 29935, 2287, 854, 27, 8),
     Row(90408, 0, 0, 794, 589, 0, 29935, 2287, 854, 27, 8),
     Row(91338, 0, 0, 794, 589, 0, 29935, 2287, 854, 27, 8),
@@ -62,40 +61,15 @@ const TABLE_3: [Row; 22] = [
     Row(0, 44387, 8393, 0, 0, 35, 14195, 1145, 586, 61, 0),
 ];
 
-// Table 3 where `table_3`, else Table 2.
-fn table(table_3: bool) -> [Row; 22]
-    ensures { result ≡ map parts (cond table_3 table3 table2) }
-{
-    if table_3 {
-        return TABLE_3;
-    }
-    TABLE_2
-}
-
-// Row k of that table.
-fn row_of(table_3: bool, k: usize) -> Row
-    requires { k < row_count }
-    ensures { (result ≡ parts (row_at table_3 k)) × RowLimits result }
-{
-    let t = table(table_3);
-    let mut row = t[0];
-    for i in 1..t.len() {
-        if i == k {
-            row = t[i];
-        }
-    }
-    row
-}
-
-// Row k of Table 3 where `table_3`, else of Table 2. Each call names its table, so that the compiler knows the numbers.
+// Row k of Table 3 where `table_3`, else of Table 2.
 pub fn row_at(table_3: bool, k: usize) -> Row
     requires { k < row_count }
     ensures { (result ≡ parts (row_at table_3 k)) × RowLimits result }
 {
     if table_3 {
-        return row_of(true, k);
+        return TABLE_3[k];
     }
-    row_of(false, k)
+    TABLE_2[k]
 }
 
 // Whether the magnitude takes Table 3, and not Table 2.

@@ -1,129 +1,54 @@
 // Where a period stands in the tables of each model.
 #![tactic(auto)]
 
-ghost use Rattle.std.specs.Prelude.{◌≡◌, cond, ◌&&◌, ◌∷◌, ◌+◌, ◌-◌, ◌≤◌, ◌<◌, ltb, get_or};
-ghost use Rattle.toolbox_theory.specs.Lists.{count_below};
-ghost use Rattle.scenario_theory.specs.declared.Lookup.TheVariants as L;
+ghost use Rattle.std.specs.Prelude.{◌≡◌, cond, ◌∷◌, ◌+◌, ◌≤◌, ◌<◌, eqb, length, get_or, Some};
+ghost use Rattle.std.specs.List.Sorted.{IsStrictlyIncreasing};
+ghost use Rattle.scenario_theory.specs.declared.Place.TheVariants as P;
 ghost use Rattle.scenario_theory.specs.Refusal.{idriss, boore_atkinson};
-ghost use Rattle.scenario_theory.specs.Rows.{row_count, idriss_place, boore_atkinson_place};
+ghost use Rattle.scenario_theory.specs.Rows.{row_count, place_among, idriss_place, boore_atkinson_place};
 
-use scenario_theory::Lookup;
+use scenario_theory::Place;
 
-// Idriss's tabled periods, in thousandths of a second; Boore-Atkinson has the same without 40.
-const PERIODS: [u16; 22] = [
+// Idriss's tabled periods, in thousandths of a second. They are static, since the compiler copies a const array to the
+// stack at each look-up.
+static IDRISS: [u16; 22] = [
     10, 20, 30, 40, 50, 75, 100, 150, 200, 250, 300, 400, 500, 750, 1_000, 1_500, 2_000, 3_000,
     4_000, 5_000, 7_500, 10_000,
 ];
 
-fn periods() -> [u16; 22]
-    ensures { result ≡ idriss.periods }
-{
-    PERIODS
-}
+// Boore-Atkinson's: the same without 40.
+static BOORE_ATKINSON: [u16; 21] = [
+    10, 20, 30, 50, 75, 100, 150, 200, 250, 300, 400, 500, 750, 1_000, 1_500, 2_000, 3_000, 4_000,
+    5_000, 7_500, 10_000,
+];
 
-// How many of Idriss's periods are below a period.
-fn count_below(period: u16) -> usize
-    ensures { (result ≡ count_below idriss.periods period) × (result ≤ 22) }
+// Where a period stands in tables with these periods, the first of which has row `first`; the period 0 has row 0.
+fn place(periods: &[u16], first: usize, period: u16) -> Option<Place>
+    requires { IsStrictlyIncreasing periods.now × (length periods.now ≤ 22) × (first ≤ 1) }
+    ensures { result ≡ cond (eqb period 0) (Some (P.Row 0)) (place_among first periods.now period) }
 {
-    let t = periods();
-    let mut n: usize = 0;
-    let mut i: usize = 0;
-    while i < 22 {
-        if t[i] < period {
-            n += 1;
-        }
-        i += 1;
+    if period == 0 {
+        return Some(Place::Row(0));
     }
-    n
-}
-
-// The place of a period that has no row, after n of so many periods, the first of which has row `first`; none before
-// all of them or after.
-fn after(n: usize, count: usize, first: usize) -> Lookup
-    requires { (n ≤ 22) × (first ≤ 1) }
-    ensures { result ≡ cond (ltb 0 n && ltb n count) (L.Between (first + n - 1)) L.Outside }
-{
-    if n == 0 {
-        return Lookup::Outside;
+    match periods.binary_search(&period) {
+        Ok(k) => Some(Place::Row(first + k)),
+        Err(n) if 0 < n && n < periods.len() => Some(Place::Between(first + n - 1)),
+        Err(_) => None,
     }
-    if n < count {
-        return Lookup::Between(first + n - 1);
-    }
-    Lookup::Outside
-}
-
-// How many of Boore-Atkinson's periods are below a period.
-fn count_below_without_40(period: u16) -> usize
-    ensures { (result ≡ count_below boore_atkinson.periods period) × (result ≤ 22) }
-{
-    let n = count_below(period);
-    if 40 < period {
-        return n - 1;
-    }
-    n
 }
 
 // Where a period stands in Idriss's tables, or that it is outside them.
-pub fn idriss_place(period: u16) -> Lookup
+pub fn idriss_place(period: u16) -> Option<Place>
     ensures { result ≡ idriss_place period }
 {
-    match period {
-        0 => Lookup::Row(0),
-        10 => Lookup::Row(0),
-        20 => Lookup::Row(1),
-        30 => Lookup::Row(2),
-        40 => Lookup::Row(3),
-        50 => Lookup::Row(4),
-        75 => Lookup::Row(5),
-        100 => Lookup::Row(6),
-        150 => Lookup::Row(7),
-        200 => Lookup::Row(8),
-        250 => Lookup::Row(9),
-        300 => Lookup::Row(10),
-        400 => Lookup::Row(11),
-        500 => Lookup::Row(12),
-        750 => Lookup::Row(13),
-        1_000 => Lookup::Row(14),
-        1_500 => Lookup::Row(15),
-        2_000 => Lookup::Row(16),
-        3_000 => Lookup::Row(17),
-        4_000 => Lookup::Row(18),
-        5_000 => Lookup::Row(19),
-        7_500 => Lookup::Row(20),
-        10_000 => Lookup::Row(21),
-        _ => after(count_below(period), 22, 0),
-    }
+    place(&IDRISS, 0, period)
 }
 
 // Where a period stands in Boore-Atkinson's tables, or that it is outside them.
-pub fn boore_atkinson_place(period: u16) -> Lookup
+pub fn boore_atkinson_place(period: u16) -> Option<Place>
     ensures { result ≡ boore_atkinson_place period }
 {
-    match period {
-        0 => Lookup::Row(0),
-        10 => Lookup::Row(1),
-        20 => Lookup::Row(2),
-        30 => Lookup::Row(3),
-        50 => Lookup::Row(4),
-        75 => Lookup::Row(5),
-        100 => Lookup::Row(6),
-        150 => Lookup::Row(7),
-        200 => Lookup::Row(8),
-        250 => Lookup::Row(9),
-        300 => Lookup::Row(10),
-        400 => Lookup::Row(11),
-        500 => Lookup::Row(12),
-        750 => Lookup::Row(13),
-        1_000 => Lookup::Row(14),
-        1_500 => Lookup::Row(15),
-        2_000 => Lookup::Row(16),
-        3_000 => Lookup::Row(17),
-        4_000 => Lookup::Row(18),
-        5_000 => Lookup::Row(19),
-        7_500 => Lookup::Row(20),
-        10_000 => Lookup::Row(21),
-        _ => after(count_below_without_40(period), 21, 1),
-    }
+    place(&BOORE_ATKINSON, 1, period)
 }
 
 // The period of row k of Idriss's tables.
@@ -131,8 +56,7 @@ pub fn idriss_period(k: usize) -> u16
     requires { k < row_count }
     ensures { result ≡ get_or idriss.periods k 0 }
 {
-    let t = periods();
-    t[k]
+    IDRISS[k]
 }
 
 // The period of row k of Boore-Atkinson's tables, 0 for PGA.
@@ -143,8 +67,5 @@ pub fn boore_atkinson_period(k: usize) -> u16
     if k == 0 {
         return 0;
     }
-    if k < 4 {
-        return idriss_period(k - 1);
-    }
-    idriss_period(k)
+    BOORE_ATKINSON[k - 1]
 }

@@ -3,3 +3,5 @@ pub mod Tests
 pub mod ListLaws
 pub mod Places
 pub mod Found
+pub mod Results
+pub mod Searched
