@@ -5,7 +5,7 @@
 // greatest high end of the median, counted from 1, of equal ones the first; and a mark, 1, at the place, counted from
 // 0, of each accepted scenario whose high end is at least the greatest low end among the accepted ones, and 0 at all
 // other places. The median of an accepted scenario without a mark is less than that of some marked one. Or number 14,
-// more than 64 scenarios, or 15, no scenario is accepted, and zeros for all else.
+// more than 64 scenarios, or 15, no scenario is accepted, and zeros for all else. It is what C has: an enum does not pass.
 #[repr(C)]
 #[derive(Clone, Copy)]
 pub struct FlatScreening {
@@ -14,7 +14,7 @@ pub struct FlatScreening {
     pub marks: [u8; 64],
 }
 
-// The greatest end among some accepted places, and the first position that has it; zeros where no place is accepted.
+// The greatest end among some accepted places, and the first position that has it, counted from 1.
 #[derive(Clone, Copy)]
 pub struct Greatest {
     pub position: usize,
