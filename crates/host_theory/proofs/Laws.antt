@@ -10,9 +10,12 @@ use Rattle.std.specs.Prelude.{Option, Some, None, Ok, Err}
 use Rattle.scenario_theory.specs.declared.Scenario.{Scenario}
 use Rattle.scenario_theory.specs.Distances.{rupture_number, projection_number}
 use Rattle.scenario_theory.specs.Refusal.{refusal_of}
+use Rattle.scenario_theory.proofs.NumberLaws.{numbered}
 use Rattle.scenario_theory.proofs.DistanceLaws.{rupture_of_lem, projection_of_lem}
 use Rattle.record_theory.specs.Outcome.{scenario_in, read_refusal, read_of, write_refusal, write_of}
 use Rattle.record_theory.specs.Outcome.{lent_after}
+use Rattle.record_theory.proofs.ReadingLaws.{read_numbered}
+use Rattle.record_theory.proofs.WritingLaws.{write_numbered}
 use Rattle.scenario_theory.proofs.CheckLaws.{by_number}
 use Rattle.engine_theory.specs.Promise as engine
 use Rattle.engine_theory.specs.Evaluation.{SmallAnswer, answer_by, doubles_of, in_doubles}
@@ -81,7 +84,7 @@ reads s e =
       zeros = λ h. absurd (h z);
     })
     (λ n. record {
-      number = refl;
+      number = numbered (read_refusal s) n (read_numbered s);
       scenario = λ h. absurd (n h);
       rupture = inl (refl, refl);
       projection = inl (refl, refl);
@@ -97,5 +100,5 @@ unfolding write_of
 writes x lent e f =
     let p = by_number (λ r. HostWritingPromise x lent (told_writing r)) (write_refusal x lent)
     (λ z. record { number = sym z; written = λ h. refl; zero = λ h. absurd (h z) })
-    (λ n. record { number = refl; written = λ h. absurd (n h); zero = λ h. refl }) in
+    (λ n. record { number = numbered (write_refusal x lent) n (write_numbered x lent); written = λ h. absurd (n h); zero = λ h. refl }) in
     (e, (rw e p, f))

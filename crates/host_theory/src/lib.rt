@@ -107,7 +107,9 @@ impl From<HostScenario> for Scenario {
             velocity: s.velocity,
             mechanism: s.mechanism,
             period: s.period,
-            projection: (s.projection_present != 0).then_some(ProjectionDistance(s.projection_distance)),
+            projection: (s.projection_present != 0).then_some(ProjectionDistance(
+                s.projection_distance,
+            )),
         }
     }
 }
