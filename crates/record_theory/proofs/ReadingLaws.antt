@@ -37,6 +37,11 @@ pub fails : (k : ℕ) {e : Refusal} → check_with k ≡ Err e → (k ≡ 0 → 
 fails zero q = let z : ◌≡◌ {A = ℕ} 0 1 = cc in absurd (omega arith)
 fails (suc k) q = (λ z. absurd (omega arith), cc)
 
+-- the first of two that fails
+pub first_fails : (j k : ℕ) {e : Refusal} → check_with j ≡ Err e → Err e ≡ check_with (j otherwise k)
+first_fails zero k q = let z : ◌≡◌ {A = ℕ} 0 1 = cc in absurd (omega arith)
+first_fails (suc j) k q = sym q
+
 -- ---- the number of reading is one of document 01's
 
 pub read_numbered : (s : List ℕ) → read_refusal s ≤ 15
