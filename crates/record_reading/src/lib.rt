@@ -23,15 +23,7 @@ pub fn read_with_basis(s: &[u8]) -> BasedReading
     if absent_written(m, x) {
         return Err(Refusal::DefaultWritten);
     }
-    let basis = scenario::check(
-        x.model,
-        x.magnitude,
-        x.rupture,
-        x.velocity,
-        x.mechanism,
-        x.period,
-        x.projection,
-    )?;
+    let basis = scenario::check(x)?;
     Ok((x, record_length(m), basis))
 }
 
