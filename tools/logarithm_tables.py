@@ -67,7 +67,7 @@ def proof(name, rows):
         "-- Written by tools/logarithm_tables.py. A place past the end is read as the last.",
         "use mathlib.Core.Path.{refl}",
         f"use Rattle.logarithm_tables_theory.specs.Tables.{{factor, {name}, {name}_at}}",
-        "use Rattle.logarithm_tables.proofs.Clamped.{clamped}",
+        "use Rattle.toolbox_theory.proofs.Clamped.{clamped}",
         f"use Rattle.logarithm_tables.proofs.{name}.Goals as goal",
         "",
         "pub returns : goal.returns",

@@ -1,6 +1,9 @@
 // Answers: their types, what the models give, what is promised, what is computed, and laws. There is no code.
 #![tactic(auto)]
 
+ghost use Rattle.std.specs.Prelude.{◌≡◌};
+ghost use Rattle.engine_theory.specs.Flat.{told};
+
 use interval_theory::Ends;
 use scenario_theory::Refusal;
 
@@ -30,4 +33,27 @@ pub struct FlatAnswer {
     pub median_high: i64,
     pub sigma_low: i64,
     pub sigma_high: i64,
+}
+
+impl From<Answer> for FlatAnswer {
+    ghost from_gives = { λ a r. r ≡ told a };
+
+    fn from(a: Answer) -> FlatAnswer {
+        match a {
+            Ok(e) => FlatAnswer {
+                number: 0,
+                median_low: e.median.low,
+                median_high: e.median.high,
+                sigma_low: e.sigma.low,
+                sigma_high: e.sigma.high,
+            },
+            Err(refusal) => FlatAnswer {
+                number: refusal.into(),
+                median_low: 0,
+                median_high: 0,
+                sigma_low: 0,
+                sigma_high: 0,
+            },
+        }
+    }
 }

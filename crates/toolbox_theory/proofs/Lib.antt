@@ -5,3 +5,4 @@ pub mod Places
 pub mod Found
 pub mod Results
 pub mod Searched
+pub mod Clamped

@@ -1,7 +1,7 @@
 -- Written by tools/logarithm_tables.py. A place past the end is read as the last.
 use mathlib.Core.Path.{refl}
 use Rattle.logarithm_tables_theory.specs.Tables.{factor, fine, fine_at}
-use Rattle.logarithm_tables.proofs.Clamped.{clamped}
+use Rattle.toolbox_theory.proofs.Clamped.{clamped}
 use Rattle.logarithm_tables.proofs.fine.Goals as goal
 
 pub returns : goal.returns
