@@ -19,7 +19,7 @@ use Rattle.engine_theory.specs.Models.{median}
 use Rattle.engine_theory.specs.Promise.{EnclosesBoth}
 use Rattle.sheet_theory.specs.declared.FlatSheet.{FlatSheet}
 use Rattle.sheet_theory.specs.Promise.{sheet_most, answer_at, SheetPromise}
-use Rattle.sheet_theory.specs.Evaluation.{head_of, sheet_of}
+use Rattle.sheet_theory.specs.Evaluation.{answered_count, sheet_of}
 use Rattle.sheet_theory.proofs.Filling.{all_z}
 use Rattle.sheet_theory.proofs.Laws.{sheet_promised, sheet_alike}
 use Rattle.governing_theory.specs.declared.FlatScreening.{FlatScreening}
@@ -224,6 +224,6 @@ governing_promised count xs long e =
 
 -- scenarios from the count on are not looked at
 pub governing_alike : (count : ℕ) (xs ys : List Scenario) →
-    take (head_of count).count xs ≡ take (head_of count).count ys → governing_of count xs ≡ governing_of count ys
+    take (answered_count count) xs ≡ take (answered_count count) ys → governing_of count xs ≡ governing_of count ys
 unfolding governing_of
 governing_alike count xs ys e = ap screening_of (sheet_alike count xs ys e)

@@ -4,6 +4,8 @@ use Rattle.std.specs.Prelude.{get_or, set, replicate, Option, Some, None}
 use Rattle.std.specs.Int.Signed.{lt_z, le_z}
 use Rattle.std.specs.Option.{option_map_or}
 use Rattle.scenario_theory.specs.declared.Scenario.{Scenario}
+use Rattle.scenario_theory.specs.declared.Refusal.TheVariants.{NoneAccepted}
+use Rattle.scenario_theory.specs.Numbers.{refusal_number}
 use Rattle.sheet_theory.specs.declared.FlatSheet.{FlatSheet}
 use Rattle.sheet_theory.specs.Promise.{sheet_most}
 use Rattle.sheet_theory.specs.Evaluation.{sheet_of}
@@ -60,7 +62,7 @@ screening_by (Some high) (Some low) sheet =
       position = high.position;
       marks = marks_of low.end sheet.numbers sheet.median_high sheet.count;
     }
-screening_by high low sheet = no_screening 15
+screening_by high low sheet = no_screening (refusal_number NoneAccepted)
 
 -- the same of a sheet's own ends
 abbrev pub screening_within : FlatSheet → FlatScreening

@@ -7,6 +7,7 @@ ghost use Rattle.governing_theory.specs.Evaluation.{leads, with_place, greatest_
 ghost use Rattle.governing_theory.specs.Evaluation.{screening_of};
 
 use governing_theory::{FlatScreening, Greatest};
+use scenario_theory::Refusal;
 use sheet_theory::FlatSheet;
 
 // Whether a place with such a number and such an end takes the lead. A refused one is passed over by its number.
@@ -74,7 +75,7 @@ pub fn screen(sheet: FlatSheet) -> FlatScreening
     let highs = &sheet.median_high[..sheet.count];
     let lows = &sheet.median_low[..sheet.count];
     let (Some(high), Some(low)) = (greatest(numbers, highs), greatest(numbers, lows)) else {
-        return none(15);
+        return none(Refusal::NoneAccepted.into());
     };
     FlatScreening {
         number: 0,

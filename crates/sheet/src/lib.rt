@@ -9,23 +9,25 @@ use scenario_theory::Scenario;
 use sheet_head::head_of;
 pub use sheet_theory::FlatSheet;
 
-// Answers the first count of the scenarios, and none of them where that is more than 64. (A signed number is stored by
-// way of a variable, as the checker does not walk a store from a part of a struct.)
+// Answers the first count of the scenarios, and none of them where that is more than 64.
 pub fn answer_sheet(count: usize, scenarios: [Scenario; 64]) -> FlatSheet
     ensures value { result ≡ sheet_of count scenarios }
     ensures sheet_promise { SheetPromise count scenarios result }
 {
-    let head = head_of(count);
+    let (number, answered) = match head_of(count) {
+        Ok(answered) => (0, answered),
+        Err(refusal) => (u8::from(refusal), 0),
+    };
     let mut sheet = FlatSheet {
-        number: head.number,
-        count: head.count,
+        number,
+        count: answered,
         median_low: [0; 64],
         median_high: [0; 64],
         sigma_low: [0; 64],
         sigma_high: [0; 64],
         numbers: [0; 64],
     };
-    for (i, scenario) in scenarios[..head.count].iter().enumerate() {
+    for (i, scenario) in scenarios[..answered].iter().enumerate() {
         let answer = flat::answer_fields(*scenario);
         sheet.median_low[i] = answer.median_low;
         sheet.median_high[i] = answer.median_high;

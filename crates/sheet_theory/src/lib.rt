@@ -4,7 +4,7 @@
 // A sheet of up to 64 answers: number 0, how many there are, and at each place before that count the low and high ends
 // of the median and of sigma, natural logarithms in units of 10^-9, beside the number 0, or zeros beside the number of
 // the refusal; places from the count on hold zeros, and are no answers. Or number 14, more than 64 scenarios, and zeros
-// for all else.
+// for all else. It is what C has, to which neither an enum nor a slice passes: so numbers, and an array for each field.
 #[repr(C)]
 #[derive(Clone, Copy)]
 pub struct FlatSheet {
@@ -15,11 +15,4 @@ pub struct FlatSheet {
     pub sigma_low: [i64; 64],
     pub sigma_high: [i64; 64],
     pub numbers: [u8; 64],
-}
-
-// A sheet's own number and its count.
-#[derive(Clone, Copy)]
-pub struct SheetHead {
-    pub number: u8,
-    pub count: usize,
 }

@@ -1,6 +1,7 @@
 -- It goes by the sheet's own number, and then by the greatest ends.
-use Rattle.std.proofs.Common.{rules, arith, ◌≡◌, refl, sym, ◌∙◌, to_z, of_z, w64}
+use Rattle.std.proofs.Common.{rules, arith, ◌≡◌, refl, sym, ap, ◌∙◌, to_z, of_z, w64}
 use mir.ValLaws.{to_z-of_z}
+use Rattle.governing_theory.specs.Evaluation.{no_screening}
 use Rattle.governing_theory.proofs.Screening.{over_is}
 use Rattle.screening.proofs.Steps.{marks_taken, screened}
 use Rattle.screening.proofs.screen.Goals as goal
@@ -14,10 +15,11 @@ returns-in_default c =
     let by =
     screened c.args.sheet c.if-sheet-ne0.false (omega arith) (omega arith) (omega arith) c.greatest.ensures
     c.greatest-2.ensures in
+    let none = c.none-in_default.ensures ∙ ap no_screening c.into.ensures in
     elim c.in_default.branch [
       | in_default-via-in-Some+in_default w ↦
-          rw (by, w.in_default.is-0, w.in_default.is-1) c.none-in_default.ensures
-      | in_default-via-in_default w ↦ rw (by, w.in_default.is-0) c.none-in_default.ensures
+          rw (by, w.in_default.is-0, w.in_default.is-1) none
+      | in_default-via-in_default w ↦ rw (by, w.in_default.is-0) none
     ]
 
 pub returns : goal.returns

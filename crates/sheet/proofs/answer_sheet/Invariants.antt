@@ -1,7 +1,6 @@
-use Rattle.std.proofs.Common.{◌≡◌, ℕ, ◌+◌, ◌-◌, ◌*◌, ◌<◌, ◌≤◌, length}
-use Rattle.sheet_theory.specs.Promise.{SheetPromise}
-use Rattle.sheet_theory.specs.Evaluation.{sheet_of}
+-- The arrays are those of the sheet of the scenarios so far.
+use Rattle.sheet_theory.proofs.Turns.{Turned}
 use Rattle.sheet.proofs.answer_sheet.Given as goal
 
 abbrev pub invariant-loop-i : goal.invariant-loop-i
-invariant-loop-i l = ?
+invariant-loop-i l = Turned l.number l.answered l.fn.scenarios l.i l.sheet
