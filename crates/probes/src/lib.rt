@@ -19,7 +19,8 @@ pub struct Probed {
     pub high: u64,
 }
 
-// The ends of an answer. Where there are none, low is 1 and high 0.
+// The ends of an answer. Where there are none, low is 1 and high 0. This struct and the last differ in a type alone, and
+// stay two for the C interface, which has no generic struct.
 #[repr(C)]
 #[derive(Clone, Copy)]
 pub struct ProbedEnds {
@@ -27,8 +28,8 @@ pub struct ProbedEnds {
     pub high: i64,
 }
 
-// The place of a period: 0 for row k, 1 for between the rows k and k + 1, 2 for neither. A kind and a number, as C has
-// no Option and no enum with values.
+// The place of a period: 0 for row k, 1 for between the rows k and k + 1, 2 for neither. A kind and a number
+// for the C interface, to which no Option passes.
 #[repr(C)]
 #[derive(Clone, Copy)]
 pub struct ProbedPlace {

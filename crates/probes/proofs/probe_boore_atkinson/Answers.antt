@@ -9,7 +9,7 @@ unfolding probed_boore_atkinson
 returns-then-not-taken c = none_told _ _ _ c.taken.ensures c.if-not-taken.true
 
 pub median-requires : goal.median-requires
-median-requires c = 
+median-requires c =
     let t = taken _ _ c.taken.ensures c.if-not-taken.false in median_domain t.row (takes_boore_atkinson t.accepted)
 
 pub returns : goal.returns

@@ -1,4 +1,4 @@
-use mathlib.Core.Path.{◌∙◌, refl, ap}
+use mathlib.Core.Path.{◌∙◌, ap}
 use borrow.Author.Tests.{eq-eqb, ne_eqb, lt-ltb, le-ltb, le-leb, lt-leb}
 use Rattle.probes.specs.Probe.{told_ln, probed_ln}
 use Rattle.probes.proofs.probe_ln.Goals as goal
