@@ -290,7 +290,7 @@ module _ (s : Scenario) where
   failed {e} p =
       ⊎_elim (λ q. let d = based q.0 in let z : ◌≡◌ {A = ℕ} 0 1 = cc in absurd (omega arith))
       (λ q.
-        let same : with_number (refusal_of s) ≡ e = cc in
-        let number = sym (ap refusal_number same) ∙ numbered (refusal_of s) q.0 (refusal_numbered s) in
-        record { number = number; reason = same; some = q.0 })
+      let same : with_number (refusal_of s) ≡ e = cc in
+      let number = sym (ap refusal_number same) ∙ numbered (refusal_of s) q.0 (refusal_numbered s) in
+      record { number = number; reason = same; some = q.0 })
       (unless_is (refusal_of s) p)

@@ -19,7 +19,7 @@ use Rattle.scenario_theory.specs.Numbers.{with_number}
 use Rattle.scenario_theory.specs.Rows.{idriss_row, boore_atkinson_row, place_by, row_list, periods_at, InTable}
 
 -- the scenario that has the fields
-abbrev pub scenario_with : 
+abbrev pub scenario_with :
     ℕ → ℕ → Option RuptureDistance → ℕ → ℕ → ℕ → Option ProjectionDistance → Scenario
 scenario_with model magnitude rupture velocity mechanism period projection =
     record {
