@@ -1,6 +1,6 @@
 // What C is told and tells: plain structs, their definitions, what is promised of them, laws, and the ways between them
 // and the engine's types. There is no other code.
-// Each struct with a flag or a number beside its values has them for the C interface, to which no Option or Result passes.
+// A flag or a number beside a value is the C interface, to which no Option or Result passes.
 #![tactic(auto)]
 
 ghost use Rattle.std.specs.Prelude.{◌≡◌};

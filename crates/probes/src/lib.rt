@@ -19,7 +19,7 @@ pub struct Probed {
     pub high: u64,
 }
 
-// The ends of an answer. Where there are none, low is 1 and high 0. This struct and the last differ in a type alone, and
+// The ends of an answer. Where there are none, low is 1 and high 0. The two structs differ in a type alone, and
 // stay two for the C interface, which has no generic struct.
 #[repr(C)]
 #[derive(Clone, Copy)]
