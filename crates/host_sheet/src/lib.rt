@@ -5,7 +5,6 @@ ghost use Rattle.std.specs.Prelude.{◌≡◌};
 ghost use Rattle.sheet_theory.specs.Evaluation.{filled, answered_count};
 ghost use Rattle.host_theory.specs.Told.{scenario_from, no_fields};
 
-use host_scenario::scenario_from;
 use host_theory::HostScenario;
 use scenario_theory::Scenario;
 use sheet_head::head_of;
@@ -15,19 +14,10 @@ use sheet_head::head_of;
 pub fn scenarios_from(count: usize, places: [HostScenario; 64]) -> [Scenario; 64]
     ensures { result ≡ filled scenario_from (scenario_from no_fields) (answered_count count) places }
 {
-    let none = Scenario {
-        model: 0,
-        magnitude: 0,
-        rupture: None,
-        velocity: 0,
-        mechanism: 0,
-        period: 0,
-        projection: None,
-    };
-    let mut scenarios = [none; 64];
+    let mut scenarios = [Scenario::from(HostScenario::default()); 64];
     let answered = head_of(count).unwrap_or(0);
     for (i, place) in places[..answered].iter().enumerate() {
-        scenarios[i] = scenario_from(*place);
+        scenarios[i] = Scenario::from(*place);
     }
     scenarios
 }
