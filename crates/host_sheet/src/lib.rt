@@ -14,19 +14,10 @@ use sheet_head::head_of;
 pub fn scenarios_from(count: usize, places: [HostScenario; 64]) -> [Scenario; 64]
     ensures { result ≡ filled scenario_from (scenario_from no_fields) (answered_count count) places }
 {
-    let none = Scenario {
-        model: 0,
-        magnitude: 0,
-        rupture: None,
-        velocity: 0,
-        mechanism: 0,
-        period: 0,
-        projection: None,
-    };
-    let mut scenarios = [none; 64];
+    let mut scenarios = [Scenario::from(HostScenario::default()); 64];
     let answered = head_of(count).unwrap_or(0);
     for (i, place) in places[..answered].iter().enumerate() {
-        scenarios[i] = (*place).into();
+        scenarios[i] = Scenario::from(*place);
     }
     scenarios
 }

@@ -45,13 +45,12 @@ module _ {A B : Type 0} (xs : List A) (ys : List B) where
       }
 
   -- what a loop that began with s has next, after the turns ps
-  pub turn : (s : Enumerate (Zip (Iter A) (Iter B))) → enumerate_count s ≡ 0 →
-      iter_rest (zip_first (enumerate_source s)) ≡ xs → iter_rest (zip_second (enumerate_source s)) ≡ ys →
-      (ps : List (ℕ × (Bor A × Bor B))) (t u : Enumerate (Zip (Iter A) (Iter B))) →
-      Yields (enumerate_steps (zips fronts fronts)) s ps t → (r : Option (ℕ × (Bor A × Bor B))) →
-      enumerate_steps (zips fronts fronts) t r u → (i : ℕ) (x : Bor A) (y : Bor B) → r ≡ Some (i, (x, y)) →
-      Turn (length ps) i x.now y.now
-  turn s none left right ps t u so_far r step i x y is =
-      let road = YieldsList-from_enumerate (YieldsList-from_zip (YieldsList-from_slice xs left) (YieldsList-from_slice ys right)) none in
-      let h = YieldsList-turn road ps t so_far r u (i, (x, y)) is step in
+  pub turn : (s : Enumerate (Zip (Iter A) (Iter B))) (ps : List (ℕ × (Bor A × Bor B)))
+      (t u : Enumerate (Zip (Iter A) (Iter B))) {r : Option (ℕ × (Bor A × Bor B))} {i : ℕ} {x : Bor A} {y : Bor B} →
+      Yields (enumerate_steps (zips fronts fronts)) s ps t → enumerate_steps (zips fronts fronts) t r u →
+      r ≡ Some (i, (x, y)) → enumerate_count s ≡ 0 → iter_rest (zip_first (enumerate_source s)) ≡ xs →
+      iter_rest (zip_second (enumerate_source s)) ≡ ys → Turn (length ps) i x.now y.now
+  turn s ps t u {r} {i} {x} {y} so_far step is none left right =
+      let pairs = YieldsList-from_zip (YieldsList-from_slice xs left) (YieldsList-from_slice ys right) in
+      let h = YieldsList-turn (YieldsList-from_enumerate pairs none) ps t so_far r u (i, (x, y)) is step in
       at_place _ _ h.0 h.1

@@ -14,7 +14,8 @@ use Rattle.governing_theory.specs.Evaluation.{with_place, greatest_of, mark_of, 
 use Rattle.governing_theory.proofs.Screening.{within_is}
 use Rattle.screening.proofs.Places.{Turn}
 
-module _ (numbers : List ℕ) (ends : List ℤ) (k : ℕ) {i number : ℕ} {end : ℤ} (t : Turn numbers ends k i number end) where
+module _ (numbers : List ℕ) (ends : List ℤ) (k : ℕ) {i number : ℕ} {end : ℤ}
+    (t : Turn numbers ends k i number end) where
   pub greatest_next : {best : Option Greatest} → best ≡ greatest_of numbers ends k →
       with_place best i number end ≡ greatest_of numbers ends (k + 1)
   unfolding greatest_of

@@ -9,7 +9,8 @@ use scenario_theory::Scenario;
 use sheet_head::head_of;
 pub use sheet_theory::FlatSheet;
 
-// Answers the first count of the scenarios, and none of them where that is more than 64.
+// Answers the first count of the scenarios, and none of them where that is more than 64: a count beside 64 places, as C
+// has them, and no slice.
 pub fn answer_sheet(count: usize, scenarios: [Scenario; 64]) -> FlatSheet
     ensures value { result ≡ sheet_of count scenarios }
     ensures sheet_promise { SheetPromise count scenarios result }

@@ -78,7 +78,9 @@ module _ (number n : ℕ) (xs : List Scenario) (there : n ≤ length xs) where
 -- what equals what the single call gives keeps that call's promise
 single : (s : Scenario) (a : FlatAnswer) → a ≡ told (answer_of s) → PlacePromise s a
 unfolding answer_of
-single s a e = let h = flat_answers s (refusal_of s) (λ z. z) (refusal_numbered s) e in record { single = h.0; promise = h.1 }
+single s a e =
+    let h = flat_answers s (refusal_of s) (λ z. z) (refusal_numbered s) e in
+    record { single = h.0; promise = h.1 }
 
 -- the places of a sheet with any head
 held : (head : Result ℕ Refusal) (xs : List Scenario) → result_unwrap_or head 0 ≤ length xs → {r : FlatSheet} →
@@ -124,7 +126,7 @@ with_alike (Ok n) xs ys e = by_alike 0 n xs ys e
 with_alike (Err r) xs ys e = by_alike (refusal_number r) 0 xs ys e
 
 -- scenarios from the count on are not looked at
-pub sheet_alike : (count : ℕ) (xs ys : List Scenario) → take (answered_count count) xs ≡ take (answered_count count) ys →
-    sheet_of count xs ≡ sheet_of count ys
+pub sheet_alike : (count : ℕ) (xs ys : List Scenario) →
+    take (answered_count count) xs ≡ take (answered_count count) ys → sheet_of count xs ≡ sheet_of count ys
 unfolding sheet_of
 sheet_alike count xs ys e = with_alike (head_of count) xs ys e

@@ -2,9 +2,8 @@
 use mathlib.Core.Path.{◌≡◌, refl}
 use mathlib.Core.List.{List}
 use Prim.Native.Nat.{ℕ, ◌+◌, ◌<◌}
-use native.Mathlib.Omega.{arith}
 use lib.IntN.{pos}
-use lib.ListN.{length, get_or, set, replicate}
+use lib.ListN.{length, get_or, set, take, replicate}
 use Rattle.scenario_theory.specs.declared.Scenario.{Scenario}
 use Rattle.engine_theory.specs.declared.FlatAnswer.{FlatAnswer}
 use Rattle.engine_theory.specs.Evaluation.{answer_of}
@@ -12,7 +11,7 @@ use Rattle.engine_theory.specs.Flat.{told}
 use Rattle.sheet_theory.specs.declared.FlatSheet.{FlatSheet}
 use Rattle.sheet_theory.specs.Promise.{sheet_most, no_answer}
 use Rattle.sheet_theory.specs.Evaluation.{filled, column, sheet_by}
-use Rattle.sheet_theory.proofs.Filling.{filled_next}
+use Rattle.sheet_theory.proofs.Filling.{filled_turn}
 use Rattle.sheet_theory.proofs.Laws.{field_of}
 
 -- after i turns the arrays are those of the sheet of the first i scenarios
@@ -53,11 +52,11 @@ stored r i a =
       numbers = set r.numbers i a.number;
     }
 
--- with the answer of the next scenario it is the sheet of one more
-next : (number n i : ℕ) (xs : List Scenario) (d : Scenario) → i < sheet_most → i < length xs →
-    stored (record (sheet_by number i xs) { count = n }) i (told (answer_of (get_or xs i d)))
+-- with the answer of the next scenario of the first n it is the sheet of one more
+next : (number n i : ℕ) (xs : List Scenario) (d : Scenario) → length xs ≡ sheet_most → i < length (take n xs) →
+    stored (record (sheet_by number i xs) { count = n }) i (told (answer_of (get_or (take n xs) i d)))
     ≡ record (sheet_by number (i + 1) xs) { count = n }
-next number n i xs d room there =
+next number n i xs d long more =
     rw (
       at (λ a. a.number),
       at (λ a. a.median_low),
@@ -67,15 +66,14 @@ next number n i xs d room there =
     ) refl
   where
     at : {B : Type 0} (field : FlatAnswer → B) →
-        set (column field i xs) i (field (told (answer_of (get_or xs i d)))) ≡ column field (i + 1) xs
-    at field = filled_next (field_of field) (field no_answer) i xs d room there refl
+        set (column field i xs) i (field (told (answer_of (get_or (take n xs) i d)))) ≡ column field (i + 1) xs
+    at field = filled_turn (field_of field) (field no_answer) n i xs d long more refl
 
 -- a turn stores the next scenario's answer, a
 pub next_turn : {number n : ℕ} {xs : List Scenario} {i : ℕ} {r : FlatSheet} (d : Scenario) (a : FlatAnswer) →
-    Turned number n xs i r → length xs ≡ sheet_most → i < sheet_most → a ≡ told (answer_of (get_or xs i d)) →
-    Turned number n xs (i + 1) (stored r i a)
-next_turn {number} {n} {xs} {i} d a h long room e =
-    record { held = rw (h.held, e) (next number n i xs d room (omega arith)) }
+    Turned number n xs i r → length xs ≡ sheet_most → i < length (take n xs) →
+    a ≡ told (answer_of (get_or (take n xs) i d)) → Turned number n xs (i + 1) (stored r i a)
+next_turn {number} {n} {xs} {i} d a h long more e = record { held = rw (h.held, e) (next number n i xs d long more) }
 
 -- after the last turn it is the whole sheet
 pub last_turn : {number n : ℕ} {xs : List Scenario} {r : FlatSheet} → Turned number n xs n r → r ≡ sheet_by number n xs

@@ -13,7 +13,9 @@ loop-i-init c = refl
 
 pub loop-i-preserved-then-leads : goal.loop-i-preserved-then-leads
 loop-i-preserved-then-leads c =
-    let t = turn c.args.numbers.now c.args.ends.now c.into_iter-i-iterator.result (cc) (cc) (cc) c.loop-i.yielded c.loop-i.i-iterator c.next.new.self c.loop-i.yielded_by c.next.result c.next.ensures.steps c.in-Some.i c.in-Some.number c.in-Some.end c.in-Some.is in
+    let t =
+    turn c.args.numbers.now c.args.ends.now c.into_iter-i-iterator.result c.loop-i.yielded c.loop-i.i-iterator
+    c.next.new.self c.loop-i.yielded_by c.next.ensures.steps c.in-Some.is (cc) (cc) (cc) in
     let read : to_z w64 (of_z w64 c.in-Some.end.now) ≡ c.in-Some.end.now = search (rules, to_z-of_z) in
     let lead : leads c.loop-i.best c.in-Some.number.now c.in-Some.end.now ≡ true =
     sym (rw read at c.leads.ensures) ∙ c.if-leads.true in
@@ -21,7 +23,9 @@ loop-i-preserved-then-leads c =
 
 pub loop-i-preserved : goal.loop-i-preserved
 loop-i-preserved c =
-    let t = turn c.args.numbers.now c.args.ends.now c.into_iter-i-iterator.result (cc) (cc) (cc) c.loop-i.yielded c.loop-i.i-iterator c.next.new.self c.loop-i.yielded_by c.next.result c.next.ensures.steps c.in-Some.i c.in-Some.number c.in-Some.end c.in-Some.is in
+    let t =
+    turn c.args.numbers.now c.args.ends.now c.into_iter-i-iterator.result c.loop-i.yielded c.loop-i.i-iterator
+    c.next.new.self c.loop-i.yielded_by c.next.ensures.steps c.in-Some.is (cc) (cc) (cc) in
     let read : to_z w64 (of_z w64 c.in-Some.end.now) ≡ c.in-Some.end.now = search (rules, to_z-of_z) in
     let lead : leads c.loop-i.best c.in-Some.number.now c.in-Some.end.now ≡ false =
     sym (rw read at c.leads.ensures) ∙ c.if-leads.false in

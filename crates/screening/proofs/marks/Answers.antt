@@ -13,6 +13,8 @@ loop-i-init c = refl
 
 pub loop-i-preserved : goal.loop-i-preserved
 loop-i-preserved c =
-    let t = turn c.args.numbers.now c.args.highs.now c.into_iter-i-iterator.result (cc) (cc) (cc) c.loop-i.yielded c.loop-i.i-iterator c.next.new.self c.loop-i.yielded_by c.next.result c.next.ensures.steps c.in-Some.i c.in-Some.number c.in-Some.high c.in-Some.is in
+    let t =
+    turn c.args.numbers.now c.args.highs.now c.into_iter-i-iterator.result c.loop-i.yielded c.loop-i.i-iterator
+    c.next.new.self c.loop-i.yielded_by c.next.ensures.steps c.in-Some.is (cc) (cc) (cc) in
     let read : to_z w64 (of_z w64 c.in-Some.high.now) ≡ c.in-Some.high.now = search (rules, to_z-of_z) in
     rw (length_push c.loop-i.yielded, c.mark.ensures, read, marks_next _ _ _ t _ c.loop-i.invariant) refl
