@@ -47,8 +47,10 @@ word_if-requires-4 c = omega (arith, room)
 pub returns : goal.returns
 returns c =
     let s = c.args.s.now in
-    let rupture : c.map.result ≡ rupture_of c.word_if.result = mapped _ _ _ c.map.ensures.cases (λ n d h. search rules) in
-    let projection : c.map-2.result ≡ projection_of c.word_if-4.result = mapped _ _ _ c.map-2.ensures.cases (λ n d h. search rules) in
+    let rupture : c.map.result ≡ rupture_of c.word_if.result =
+    mapped _ _ _ c.map.ensures.cases (λ n d h. search rules) in
+    let projection : c.map-2.result ≡ projection_of c.word_if-4.result =
+    mapped _ _ _ c.map-2.ensures.cases (λ n d h. search rules) in
     let mechanism : c.if-mechanism.result ≡ cond (stands 4 (map_in s)) (get_or s c.more_if-mechanism_at.result 0) 9 =
     elim c.if-mechanism.branch [
       | then-mechanism w ↦ rw w.if-mechanism.true w.result-is
