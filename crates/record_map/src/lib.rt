@@ -24,6 +24,7 @@ pub fn more_if(n: usize, b: bool, k: usize) -> usize
 }
 
 // The checks of the map byte.
+#[tactic(auto, using(record_theory::proofs::MapLaws::map_checked))]
 pub fn map_check(m: u8) -> Result<(), Refusal>
     ensures { result ≡ check_with (map_refusal m) }
 {
@@ -40,6 +41,7 @@ pub fn map_check(m: u8) -> Result<(), Refusal>
 }
 
 // The length of the record whose map byte is m.
+#[tactic(auto, using(record_theory::proofs::FieldLaws::length_is))]
 pub fn record_length(m: u8) -> usize
     requires { map_refusal m ≡ 0 }
     ensures { result ≡ length_by m }

@@ -3,11 +3,11 @@ use mathlib.Core.Path.{◌≡◌, refl, ap, ◌∙◌}
 use mathlib.Core.Bool.{Bool, true, false, not, cond, ◌&&◌, ◌||◌, or-false, and-not_self}
 use mathlib.Core.List.{List, [], ◌∷◌}
 use Rattle.std.specs.Prelude.{Option, Some, None}
-use Prim.Native.Nat.{ℕ, ◌+◌, ◌*◌}
+use Prim.Native.Nat.{ℕ, ◌+◌, ◌*◌, ◌≤◌}
 use native.Mathlib.Nat.{add-zero}
 use native.Mathlib.Omega.{arith}
 use lib.Dec.{eqb}
-use lib.ListN.{get_or, take, drop}
+use lib.ListN.{length, get_or, take, drop}
 use lib.Seq.{drop-drop, get_or-drop}
 use Rattle.scenario_theory.specs.declared.Scenario.{Scenario}
 use Rattle.scenario_theory.specs.Distances.{rupture_of, projection_of, is_absent}
@@ -15,7 +15,7 @@ use Rattle.scenario_theory.proofs.DistanceLaws.{rupture_number_lem, projection_n
 use Rattle.record_theory.specs.Layout.{absent_velocity, absent_mechanism, absent_period, Field, layout, stands}
 use Rattle.record_theory.specs.Layout.{number_of, size_of, numbers_of, absent_written}
 use Rattle.record_theory.specs.Outcome.{map_in, scenario_in, length_by, map_refusal}
-use Rattle.record_theory.specs.Steps.{StandBy}
+use Rattle.record_theory.specs.Steps.{StandBy, Complete}
 use Rattle.record_theory.proofs.AbsentLaws.{is_absent_lem, bit_or}
 use Rattle.record_theory.proofs.MapLaws.{passed}
 
@@ -35,6 +35,10 @@ projection_at m = period_at m + cond (stands 5 m) 2 0
 pub length_is : (m : ℕ) → map_refusal m ≡ 0 → length_by m ≡ projection_at m + cond (stands 6 m) 2 0
 unfolding length_by size_of
 length_is m e = let p = passed m e in simp (p.model, p.magnitude) (omega arith)
+
+-- there are bytes for every field
+pub fields_fit : (s : List ℕ) → Complete s → projection_at (map_in s) + cond (stands 6 (map_in s)) 2 0 ≤ length s
+fields_fit s h = omega (arith, length_is (map_in s) h.passes)
 
 -- the number of so many bytes at a place
 abbrev pub number_at : ℕ → ℕ → List ℕ → ℕ
