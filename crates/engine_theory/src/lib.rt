@@ -1,6 +1,9 @@
 // Answers: their types, what the models give, what is promised, what is computed, and laws. There is no code.
 #![tactic(auto)]
 
+ghost use Rattle.std.specs.Prelude.{◌≡◌};
+ghost use Rattle.engine_theory.specs.Flat.{told};
+
 use interval_theory::Ends;
 use scenario_theory::Refusal;
 
@@ -20,7 +23,9 @@ pub type NextAnswer = Result<(Enclosure<i64>, usize), Refusal>;
 // What answering in doubles gives: each of the four equals its whole number.
 pub type DoublesAnswer = Result<Enclosure<f64>, Refusal>;
 
-// An answer as C has it: number 0 and the low and high ends of the median and of sigma, natural logarithms in units of 10^-9; or
+// The struct below is the C interface, to which no Result passes: a number beside the ends.
+
+// An answer: number 0 and the low and high ends of the median and of sigma, natural logarithms in units of 10^-9; or
 // the number of the refusal, and zeros for the ends.
 #[repr(C)]
 #[derive(Clone, Copy)]
@@ -30,4 +35,27 @@ pub struct FlatAnswer {
     pub median_high: i64,
     pub sigma_low: i64,
     pub sigma_high: i64,
+}
+
+impl From<Answer> for FlatAnswer {
+    ghost from_gives = { λ a r. r ≡ told a };
+
+    fn from(a: Answer) -> FlatAnswer {
+        match a {
+            Ok(e) => FlatAnswer {
+                number: 0,
+                median_low: e.median.low,
+                median_high: e.median.high,
+                sigma_low: e.sigma.low,
+                sigma_high: e.sigma.high,
+            },
+            Err(refusal) => FlatAnswer {
+                number: refusal.into(),
+                median_low: 0,
+                median_high: 0,
+                sigma_low: 0,
+                sigma_high: 0,
+            },
+        }
+    }
 }

@@ -2,7 +2,6 @@
 use mathlib.Core.Path.{◌≡◌, refl, sym, ap, ◌∙◌}
 use mathlib.Core.Bool.{Bool, true, false, ◌&&◌}
 use mathlib.Core.List.{List, [], ◌∷◌}
-use mathlib.Core.Logic.{inl, inr}
 use Prim.Native.Nat.{ℕ, suc, ◌≤◌, ◌<◌}
 use native.Mathlib.Decide.{dec_lt}
 use native.Mathlib.Omega.{arith}
@@ -10,40 +9,44 @@ use lib.Dec.{T, eqb, eqb→eq}
 use lib.IntN.{ℤ}
 use lib.ListN.{length, get_or, take, replicate}
 use lib.Signed.{le_z, ◌≤ℤ◌, ◌<ℤ◌, le_z_yes}
+use Rattle.std.specs.Prelude.{if◌then◌else◌, Option, Some, None}
 use Rattle.toolbox_theory.proofs.Tests.{both}
 use Rattle.toolbox_theory.proofs.Whole.{gt_out, ≤ℤ_trans, <ℤ_in}
 use Rattle.exact_theory.specs.Formula.{ends, Encloses}
 use Rattle.exact_theory.proofs.UnitLaws.{in_order}
 use Rattle.scenario_theory.specs.declared.Scenario.{Scenario}
-use Rattle.scenario_theory.specs.Checks.{◌when◌}
 use Rattle.engine_theory.specs.Models.{median}
 use Rattle.engine_theory.specs.Promise.{EnclosesBoth}
 use Rattle.sheet_theory.specs.declared.FlatSheet.{FlatSheet}
 use Rattle.sheet_theory.specs.Promise.{sheet_most, answer_at, SheetPromise}
-use Rattle.sheet_theory.specs.Evaluation.{head_of, sheet_of}
+use Rattle.sheet_theory.specs.Evaluation.{answered_count, sheet_of}
 use Rattle.sheet_theory.proofs.Filling.{all_z}
 use Rattle.sheet_theory.proofs.Laws.{sheet_promised, sheet_alike}
 use Rattle.governing_theory.specs.declared.FlatScreening.{FlatScreening}
+use Rattle.governing_theory.specs.declared.Greatest.{Greatest}
 use Rattle.governing_theory.specs.Promise.{Accepted, low_at, high_at, ends_at, GreatestAt, Named, Marked}
 use Rattle.governing_theory.specs.Promise.{GreatestLow, ToMark, Outdone, Governs, GoverningPromise}
-use Rattle.governing_theory.specs.Evaluation.{greatest_high, greatest_low, marks_of, no_screening}
+use Rattle.governing_theory.specs.Evaluation.{marks_of, no_screening, screening_by}
 use Rattle.governing_theory.specs.Evaluation.{screening_of, governing_of}
 use Rattle.governing_theory.proofs.Less.{less}
 use Rattle.governing_theory.proofs.Leading.{Led, led}
-use Rattle.governing_theory.proofs.Screening.{over_is, none_is, some_is}
+use Rattle.governing_theory.proofs.Screening.{over_is, within_is}
 use Rattle.governing_theory.proofs.Marks.{mark_before, mark_after}
 
 -- ---- a mark by a test
 
-one_when : (b : Bool) → T b → (1 when b) ≡ 1
+abbrev flag : Bool → ℕ
+flag b = if b then 1 else 0
+
+one_when : (b : Bool) → T b → flag b ≡ 1
 one_when true t = refl
 one_when false t = elim t [ ]
 
-when_one : (b : Bool) → (1 when b) ≡ 1 → T b
+when_one : (b : Bool) → flag b ≡ 1 → T b
 when_one true e = tt
 when_one false e = absurd (omega arith)
 
-zero_when : (b : Bool) → ((1 when b) ≡ 1 → ⊥) → (1 when b) ≡ 0
+zero_when : (b : Bool) → (flag b ≡ 1 → ⊥) → flag b ≡ 0
 zero_when true h = absurd (h refl)
 zero_when false h = refl
 
@@ -117,7 +120,7 @@ module _ (count : ℕ) (xs : List Scenario) (sheet : FlatSheet) (p : SheetPromis
     abbrev passes : ℕ → Bool
     passes i = eqb (answer_at sheet i).number 0 && le_z g (high_at sheet i)
 
-    mark_at : (i : ℕ) → i < sheet.count → get_or screening.marks i 0 ≡ (1 when passes i)
+    mark_at : (i : ℕ) → i < sheet.count → get_or screening.marks i 0 ≡ flag (passes i)
     mark_at i h = mark_before g sheet.numbers sheet.median_high sheet.count i h within
 
     mark_past : (i : ℕ) → (i < sheet.count → ⊥) → get_or screening.marks i 0 ≡ 0
@@ -183,14 +186,14 @@ module _ (count : ℕ) (xs : List Scenario) (sheet : FlatSheet) (p : SheetPromis
 
   -- ---- as it is computed
 
-  by_places : Scenario → count ≤ sheet_most → Led sheet.numbers sheet.median_high sheet.count (greatest_high sheet) →
-      Led sheet.numbers sheet.median_low sheet.count (greatest_low sheet) → Governs count xs sheet (screening_of sheet)
-  by_places d within (inl (none_yet, none)) l =
-      rw (none_is sheet (p.within within).0 none_yet)
-      (refused 15 (λ z. omega arith) none (λ h. absurd (omega arith)) (λ _. refl))
-  by_places d within (inr (k, h)) (inl (none_yet, none)) = absurd (none k h.accepted)
-  by_places d within (inr (k, h)) (inr (q, l)) =
-      rw (some_is sheet (p.within within).0 (λ z. omega (arith, h.position)), h.position)
+  by_places : Scenario → count ≤ sheet_most → (high low : Option Greatest) →
+      Led sheet.numbers sheet.median_high sheet.count high → Led sheet.numbers sheet.median_low sheet.count low →
+      Governs count xs sheet (screening_by high low sheet)
+  by_places d within None low none l =
+      refused 15 (λ z. omega arith) none (λ h. absurd (omega arith)) (λ _. refl)
+  by_places d within (Some b) None (k, h) none = absurd (none k h.accepted)
+  by_places d within (Some b) (Some c) (k, h) (q, l) =
+      rw h.position
       (answered (omega (arith, (p.within within).1)) d
       (record { high = record { accepted = h.accepted; greatest = h.greatest }; first = h.first })
       (record { accepted = l.accepted; greatest = l.greatest }) l.here within)
@@ -202,7 +205,9 @@ module _ (count : ℕ) (xs : List Scenario) (sheet : FlatSheet) (p : SheetPromis
         rw (over_is sheet (λ z. omega (arith, e.0)))
         (refused sheet.number (λ z. omega (arith, e.0)) (λ i a. omega (arith, e.1, a.0)) (λ _. e.0)
         (λ h. absurd (omega arith)))
-    | no within ↦ by_places d (omega arith) (led _ _ _) (led _ _ _)
+    | no within ↦
+        let few : count ≤ sheet_most = omega arith in
+        rw (within_is sheet (p.within few).0) (by_places d few _ _ (led _ _ _) (led _ _ _))
   ]
 
 -- an array of 64 has a first scenario
@@ -219,6 +224,6 @@ governing_promised count xs long e =
 
 -- scenarios from the count on are not looked at
 pub governing_alike : (count : ℕ) (xs ys : List Scenario) →
-    take (head_of count).count xs ≡ take (head_of count).count ys → governing_of count xs ≡ governing_of count ys
+    take (answered_count count) xs ≡ take (answered_count count) ys → governing_of count xs ≡ governing_of count ys
 unfolding governing_of
 governing_alike count xs ys e = ap screening_of (sheet_alike count xs ys e)

@@ -1,22 +1,25 @@
 -- The three cases of what is computed of a sheet.
-use mathlib.Core.Path.{◌≡◌, refl, sym}
-use borrow.Author.Tests.{ne_eqb}
-use Rattle.scenario_theory.proofs.CheckLaws.{is_first, is_refused}
+use mathlib.Core.Path.{◌≡◌, refl}
+use borrow.Author.Tests.{eq-eqb, ne_eqb}
+use Rattle.std.specs.Prelude.{Some, None}
 use Rattle.sheet_theory.specs.declared.FlatSheet.{FlatSheet}
-use Rattle.governing_theory.specs.Evaluation.{greatest_high, greatest_low, screening_by}
-use Rattle.governing_theory.specs.Evaluation.{no_screening, screening_of}
+use Rattle.governing_theory.specs.declared.Greatest.{Greatest}
+use Rattle.governing_theory.specs.Evaluation.{greatest_high, greatest_low, no_screening, screening_by}
+use Rattle.governing_theory.specs.Evaluation.{screening_within, screening_of}
 
 module _ (sheet : FlatSheet) where
   -- with 14, with 15, and with neither
   pub over_is : (sheet.number ≡ 0 → ⊥) → screening_of sheet ≡ no_screening sheet.number
   unfolding screening_of
-  over_is some = rw (← is_first sheet.number _ some) (sym (is_refused sheet.number _ _ some))
+  over_is some = rw (ne_eqb sheet.number 0 some) refl
 
-  pub none_is : sheet.number ≡ 0 → (greatest_high sheet).position ≡ 0 → screening_of sheet ≡ no_screening 15
+  pub within_is : sheet.number ≡ 0 → screening_of sheet ≡ screening_within sheet
   unfolding screening_of
-  none_is e none = rw (e, none) refl
+  within_is e = rw (eq-eqb sheet.number 0 e) refl
 
-  pub some_is : sheet.number ≡ 0 → ((greatest_high sheet).position ≡ 0 → ⊥) →
-      screening_of sheet ≡ screening_by (greatest_high sheet) (greatest_low sheet) sheet
-  unfolding screening_of
-  some_is e some = rw (e, ne_eqb _ 0 some) refl
+  pub none_is : sheet.number ≡ 0 → greatest_high sheet ≡ None → screening_of sheet ≡ no_screening 15
+  none_is e none = rw (within_is e, none) refl
+
+  pub some_is : {high low : Greatest} → sheet.number ≡ 0 → greatest_high sheet ≡ Some high →
+      greatest_low sheet ≡ Some low → screening_of sheet ≡ screening_by (Some high) (Some low) sheet
+  some_is e high low = rw (within_is e, high, low) refl

@@ -1,4 +1,5 @@
 // Which scenario of a sheet governs: its types, what is promised, what is computed, and laws. There is no code.
+// No Option and no Result passes to C, so a screening has a number, and a position of 0 for none.
 #![tactic(auto)]
 
 // Which scenario of a sheet governs, and which others may. Number 0: the position of the accepted scenario with the
@@ -14,7 +15,7 @@ pub struct FlatScreening {
     pub marks: [u8; 64],
 }
 
-// The greatest end among some accepted places, and the first position that has it; zeros where no place is accepted.
+// The greatest end among some accepted places, and the first position that has it, counted from 1.
 #[derive(Clone, Copy)]
 pub struct Greatest {
     pub position: usize,

@@ -17,45 +17,20 @@ ghost use Rattle.host_theory.specs.Told.{told_reading, told_writing};
 ghost use Rattle.host_theory.specs.Promise.{HostAnswerPromise, HostDoublesPromise, HostBoundsPromise};
 ghost use Rattle.host_theory.specs.Promise.{HostReadingPromise, HostWritingPromise, rows_refusal, HostRowsPromise};
 
-use engine_theory::{DoublesAnswer, FlatAnswer};
+use engine_theory::FlatAnswer;
 use governing_theory::FlatScreening;
-use host_scenario::{fields_of, scenario_from};
 use host_sheet::scenarios_from;
 use host_theory::{
     HostBounds, HostDoubles, HostPeriods, HostReading, HostScenario, HostScenarios, HostWriting,
 };
-use millionths_theory::MillionthsAnswer;
-use record_theory::{Reading, Writing};
-use scenario_theory::RowPeriods;
 use sheet_theory::FlatSheet;
-
-fn tell_doubles(a: DoublesAnswer) -> HostDoubles
-    ensures { result ≡ told_doubles a }
-{
-    match a {
-        DoublesAnswer::Enclosed(d) => HostDoubles {
-            number: 0,
-            median_low: d.median_low,
-            median_high: d.median_high,
-            sigma_low: d.sigma_low,
-            sigma_high: d.sigma_high,
-        },
-        DoublesAnswer::Refused(number) => HostDoubles {
-            number,
-            median_low: 0.0,
-            median_high: 0.0,
-            sigma_low: 0.0,
-            sigma_high: 0.0,
-        },
-    }
-}
 
 // The number of the first check that turns the scenario away, 0 where none does.
 #[unsafe(no_mangle)]
 pub extern "C" fn fusnoch_refusal(s: HostScenario) -> u8
     ensures { result ≡ refusal_of (scenario_from s) }
 {
-    scenario::refusal(scenario_from(s))
+    scenario::refusal(s.into())
 }
 
 // The rows of the model's tables that the median at the period rests on, by their periods: so that nobody takes a value
@@ -65,18 +40,7 @@ pub extern "C" fn fusnoch_rows(model: u8, period: u16) -> HostPeriods
     ensures value { result ≡ told_periods (row_periods_of model period) }
     ensures host_rows_promise { HostRowsPromise (rows_refusal model period) period result }
 {
-    match scenario_periods::row_periods(model, period) {
-        RowPeriods::Rows(lower, upper) => HostPeriods {
-            number: 0,
-            lower,
-            upper,
-        },
-        RowPeriods::Refused(number) => HostPeriods {
-            number,
-            lower: 0,
-            upper: 0,
-        },
-    }
+    scenario_periods::row_periods(model, period).into()
 }
 
 // Answers a scenario of any fields: by Idriss 2014 the median's ends enclose its exact logarithm at most 100 units
@@ -89,7 +53,7 @@ pub extern "C" fn fusnoch_answer_fields(s: HostScenario) -> FlatAnswer
     ensures value { result ≡ told (answer_of (scenario_from s)) }
     ensures host_answer_promise { HostAnswerPromise (refusal_of (scenario_from s)) (scenario_from s) result }
 {
-    flat::answer_fields(scenario_from(s))
+    flat::answer_fields(s.into())
 }
 
 // Answers the record at the front of any bytes in the same way, or with the number with which reading turns it away.
@@ -108,7 +72,7 @@ pub extern "C" fn fusnoch_answer_fields_in_doubles(s: HostScenario) -> HostDoubl
     ensures host_doubles_promise { HostDoublesPromise (refusal_of (scenario_from s)) (scenario_from s)
         (told (answer_of (scenario_from s))) result }
 {
-    tell_doubles(engine::answer_fields_in_doubles(scenario_from(s)))
+    engine::answer_fields_in_doubles(s.into()).into()
 }
 
 // Answers the record at the front of any bytes in doubles, each equal to its whole number.
@@ -118,7 +82,7 @@ pub extern "C" fn fusnoch_answer_record_in_doubles(bytes: &[u8]) -> HostDoubles
     ensures host_doubles_promise { HostDoublesPromise (read_refusal bytes.now) (scenario_in bytes.now)
         (told (record_answer_of bytes.now)) result }
 {
-    tell_doubles(engine::answer_record_in_doubles(bytes))
+    engine::answer_record_in_doubles(bytes).into()
 }
 
 // Answers a scenario of any fields with its median in millionths of g: the exact median lies from low to high, and high
@@ -128,18 +92,7 @@ pub extern "C" fn fusnoch_millionths(s: HostScenario) -> HostBounds
     ensures value { result ≡ told_bounds (millionths_of (scenario_from s)) }
     ensures host_bounds_promise { HostBoundsPromise (refusal_of (scenario_from s)) (scenario_from s) result }
 {
-    match millionths::answer_fields(scenario_from(s)) {
-        MillionthsAnswer::Between(m) => HostBounds {
-            number: 0,
-            low: m.low,
-            high: m.high,
-        },
-        MillionthsAnswer::Refused(number) => HostBounds {
-            number,
-            low: 0,
-            high: 0,
-        },
-    }
+    millionths::answer_fields(s.into()).into()
 }
 
 // Answers the first count of the scenarios in one go, each as fusnoch_answer_fields answers it; one that is turned away
@@ -170,28 +123,7 @@ pub extern "C" fn fusnoch_read(bytes: &[u8]) -> HostReading
     ensures value { result ≡ told_reading (read_of bytes.now) }
     ensures host_reading_promise { HostReadingPromise bytes.now result }
 {
-    match record_reading::read(bytes) {
-        Reading::Read(x, length) => HostReading {
-            number: 0,
-            scenario: fields_of(x),
-            length,
-        },
-        Reading::Refused(number) => HostReading {
-            number,
-            scenario: HostScenario {
-                model: 0,
-                magnitude: 0,
-                rupture_present: 0,
-                rupture_distance: 0,
-                velocity: 0,
-                mechanism: 0,
-                period: 0,
-                projection_present: 0,
-                projection_distance: 0,
-            },
-            length: 0,
-        },
-    }
+    record_reading::read(bytes).into()
 }
 
 // Writes the record of a scenario to the front of the lent bytes and leaves all later bytes; with a refusal it leaves
@@ -202,8 +134,5 @@ pub extern "C" fn fusnoch_write(s: HostScenario, out: &mut [u8]) -> HostWriting
     ensures host_writing_promise { HostWritingPromise (scenario_from s) out.old result }
     ensures out_after { out.new ≡ lent_after (scenario_from s) out.old }
 {
-    match record_writing::write(scenario_from(s), out) {
-        Writing::Length(length) => HostWriting { number: 0, length },
-        Writing::Refused(number) => HostWriting { number, length: 0 },
-    }
+    record_writing::write(s.into(), out).into()
 }

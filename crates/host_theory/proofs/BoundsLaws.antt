@@ -4,11 +4,10 @@ use mathlib.Core.List.{[]}
 use Prim.Native.Nat.{ℕ}
 use native.Mathlib.Omega.{arith}
 use lib.ListN.{length, get_or}
+use Rattle.std.specs.Prelude.{Ok, Err}
 use Rattle.scenario_theory.specs.declared.Scenario.{Scenario}
 use Rattle.scenario_theory.specs.Refusal.{refusal_of}
-use Rattle.millionths_theory.specs.declared.MillionthsAnswer.{MillionthsAnswer}
-use Rattle.millionths_theory.specs.declared.MillionthsAnswer.TheVariants as M
-use Rattle.millionths_theory.specs.Promise.{BoundsMedian, MillionthsPromise}
+use Rattle.millionths_theory.specs.Promise.{MillionthsAnswer, BoundsMedian, MillionthsPromise}
 use Rattle.millionths_theory.specs.Evaluation.{millionths_of}
 use Rattle.millionths_theory.proofs.Laws.{answers}
 use Rattle.host_theory.specs.declared.HostBounds.{HostBounds}
@@ -21,7 +20,7 @@ none_bound h = absurd (omega (arith, ap length h.two))
 
 bounds_promised : {k : ℕ} {s : Scenario} (r : MillionthsAnswer) → MillionthsPromise k s r →
     HostBoundsPromise k s (told_bounds r)
-bounds_promised (M.Between m) p = record {
+bounds_promised (Ok m) p = record {
   number = p.number;
   between = λ z.
       let b = p.between z in
@@ -30,7 +29,7 @@ bounds_promised (M.Between m) p = record {
       rw (← low, ← high) at b.bounds;
   zeros = λ h. absurd (h (omega arith));
 }
-bounds_promised (M.Refused k) p =
+bounds_promised (Err r) p =
     record { number = p.number; between = λ z. absurd (none_bound (p.between z)); zeros = λ _. (refl, refl) }
 
 -- every struct of which a contract says `r ≡ ..` keeps it

@@ -1,5 +1,16 @@
-// What C is told and tells: plain structs, their definitions, what is promised of them, and laws. There is no code.
+// What C is told and tells: plain structs, their definitions, what is promised of them, laws, and the ways between them
+// and the engine's types. There is no other code.
+// A flag or a number beside a value is the C interface, to which no Option or Result passes.
 #![tactic(auto)]
+
+ghost use Rattle.std.specs.Prelude.{◌≡◌};
+ghost use Rattle.host_theory.specs.Told.{flagged_of, scenario_from, fields_of, no_fields, told_doubles, told_bounds};
+ghost use Rattle.host_theory.specs.Told.{told_periods, told_reading, told_writing};
+
+use engine_theory::DoublesAnswer;
+use millionths_theory::MillionthsAnswer;
+use record_theory::{Reading, Writing};
+use scenario_theory::{ProjectionDistance, Refusal, RowPeriods, RuptureDistance, Scenario};
 
 // The fields of a scenario, whole numbers: magnitude in 0.01, distances in 0.01 km, velocity V_S30 in 0.1 m/s, period
 // in 0.001 s (0, which is peak acceleration, or from 10 to 10000). Mechanism: 0 strike-slip, 1 normal, 2 reverse,
@@ -7,7 +18,7 @@
 // the rupture, model 2, Boore and Atkinson 2008, that to its surface projection; the other may stand. A distance whose
 // flag is 0 is absent, and the number beside it is not looked at; with any other flag it stands.
 #[repr(C)]
-#[derive(Clone, Copy)]
+#[derive(Clone, Copy, Default)]
 pub struct HostScenario {
     pub model: u8,
     pub rupture_present: u8,
@@ -27,7 +38,8 @@ pub struct HostScenarios {
     pub places: [HostScenario; 64],
 }
 
-// A distance as C has it: its flag, 0 or 1, and its number, 0 where it is absent.
+// A distance as C has it: its flag, 0 or 1, and its number, 0 where it is absent. It is the form of the two fields for
+// each distance in HostScenario.
 #[derive(Clone, Copy)]
 pub struct Flagged {
     pub present: u8,
@@ -83,4 +95,151 @@ pub struct HostReading {
 pub struct HostWriting {
     pub number: u8,
     pub length: usize,
+}
+
+// ---- the ways from and to C
+
+// The scenario that C has.
+impl From<HostScenario> for Scenario {
+    ghost from_gives = { λ s x. x ≡ scenario_from s };
+
+    fn from(s: HostScenario) -> Scenario {
+        Scenario {
+            model: s.model,
+            magnitude: s.magnitude,
+            rupture: (s.rupture_present != 0).then_some(RuptureDistance(s.rupture_distance)),
+            velocity: s.velocity,
+            mechanism: s.mechanism,
+            period: s.period,
+            projection: (s.projection_present != 0).then_some(ProjectionDistance(
+                s.projection_distance,
+            )),
+        }
+    }
+}
+
+impl From<Option<u16>> for Flagged {
+    ghost from_gives = { λ d f. f ≡ flagged_of d };
+
+    fn from(d: Option<u16>) -> Flagged {
+        Flagged {
+            present: d.is_some().into(),
+            distance: d.unwrap_or(0),
+        }
+    }
+}
+
+// The fields of a scenario for C.
+impl From<Scenario> for HostScenario {
+    ghost from_gives = { λ x s. s ≡ fields_of x };
+
+    fn from(x: Scenario) -> HostScenario {
+        let rupture = Flagged::from(x.rupture.map(|d| d.0));
+        let projection = Flagged::from(x.projection.map(|d| d.0));
+        HostScenario {
+            model: x.model,
+            magnitude: x.magnitude,
+            rupture_present: rupture.present,
+            rupture_distance: rupture.distance,
+            velocity: x.velocity,
+            mechanism: x.mechanism,
+            period: x.period,
+            projection_present: projection.present,
+            projection_distance: projection.distance,
+        }
+    }
+}
+
+impl From<DoublesAnswer> for HostDoubles {
+    ghost from_gives = { λ a r. r ≡ told_doubles a };
+
+    fn from(a: DoublesAnswer) -> HostDoubles {
+        match a {
+            Ok(d) => HostDoubles {
+                number: 0,
+                median_low: d.median.low,
+                median_high: d.median.high,
+                sigma_low: d.sigma.low,
+                sigma_high: d.sigma.high,
+            },
+            Err(refusal) => HostDoubles {
+                number: refusal.into(),
+                median_low: 0.0,
+                median_high: 0.0,
+                sigma_low: 0.0,
+                sigma_high: 0.0,
+            },
+        }
+    }
+}
+
+impl From<MillionthsAnswer> for HostBounds {
+    ghost from_gives = { λ a r. r ≡ told_bounds a };
+
+    fn from(a: MillionthsAnswer) -> HostBounds {
+        match a {
+            Ok(m) => HostBounds {
+                number: 0,
+                low: m.low,
+                high: m.high,
+            },
+            Err(refusal) => HostBounds {
+                number: refusal.into(),
+                low: 0,
+                high: 0,
+            },
+        }
+    }
+}
+
+impl From<Result<RowPeriods, Refusal>> for HostPeriods {
+    ghost from_gives = { λ a r. r ≡ told_periods a };
+
+    fn from(a: Result<RowPeriods, Refusal>) -> HostPeriods {
+        match a {
+            Ok(rows) => HostPeriods {
+                number: 0,
+                lower: rows.lower,
+                upper: rows.upper,
+            },
+            Err(refusal) => HostPeriods {
+                number: refusal.into(),
+                lower: 0,
+                upper: 0,
+            },
+        }
+    }
+}
+
+impl From<Reading> for HostReading {
+    ghost from_gives = { λ a r. r ≡ told_reading a };
+
+    fn from(a: Reading) -> HostReading {
+        match a {
+            Ok((x, length)) => HostReading {
+                number: 0,
+                scenario: x.into(),
+                length,
+            },
+            Err(refusal) => HostReading {
+                number: refusal.into(),
+                scenario: HostScenario::default(),
+                length: 0,
+            },
+        }
+    }
+}
+
+impl From<Writing> for HostWriting {
+    ghost from_gives = { λ a r. r ≡ told_writing a };
+
+    fn from(a: Writing) -> HostWriting {
+        match a {
+            Ok(length) => HostWriting { number: 0, length },
+            Err(refusal) => HostWriting {
+                number: refusal.into(),
+                length: 0,
+            },
+        }
+    }
 }

@@ -1,5 +1,5 @@
-// Answers a scenario with its median in millionths of g: two whole numbers between which the exact value lies, or the
-// number of its refusal.
+// Answers a scenario with its median in millionths of g: two whole numbers between which the exact value lies, or why
+// the scenario is turned away.
 #![tactic(auto)]
 
 ghost use Rattle.std.specs.Prelude.{◌≡◌};
@@ -8,7 +8,6 @@ ghost use Rattle.millionths_theory.specs.Promise.{MillionthsPromise};
 ghost use Rattle.millionths_theory.specs.Evaluation.{millionths_of};
 
 use antilogarithm::from_ends;
-use engine_theory::Answer;
 pub use millionths_theory::MillionthsAnswer;
 use scenario_theory::Scenario;
 
@@ -17,8 +16,6 @@ pub fn answer_fields(s: Scenario) -> MillionthsAnswer
     ensures value { result ≡ millionths_of s }
     ensures millionths_promise { MillionthsPromise (refusal_of s) s result }
 {
-    match engine::answer_fields(s) {
-        Answer::Enclosed(e) => MillionthsAnswer::Between(from_ends(e.median)),
-        Answer::Refused(k) => MillionthsAnswer::Refused(k),
-    }
+    let e = engine::answer_fields(s)?;
+    Ok(from_ends(e.median))
 }

@@ -6,22 +6,21 @@ use native.Mathlib.Omega.{arith}
 use lib.Dec.{eqb}
 use lib.IntN.{pos}
 use lib.ListN.{get_or}
+use Rattle.std.specs.Prelude.{ℤ, Ok, Err}
 use Rattle.toolbox_theory.proofs.Tests.{by_test}
 use Rattle.toolbox_theory.proofs.Whole.{within_more}
 use Rattle.scenario_theory.specs.declared.Scenario.{Scenario}
 use Rattle.scenario_theory.specs.Refusal.{Limits, idriss, boore_atkinson, refusal_of}
 use Rattle.scenario_theory.specs.Neighbours.{has_row}
+use Rattle.scenario_theory.proofs.NumberLaws.{refusal_numbered}
 use Rattle.engine_theory.specs.declared.Enclosure.{Enclosure}
-use Rattle.engine_theory.specs.declared.Answer.{Answer}
-use Rattle.engine_theory.specs.declared.Answer.TheVariants as A
 use Rattle.engine_theory.specs.Models.{median, width_at, median_width, idriss_width, boore_atkinson_width}
-use Rattle.engine_theory.specs.Promise.{shown_ends, EnclosesBoth, AnswerPromise}
+use Rattle.engine_theory.specs.Promise.{Answer, shown_ends, EnclosesBoth, AnswerPromise}
 use Rattle.engine_theory.specs.Ranges.{InRange, AnswerInRange}
 use Rattle.engine_theory.specs.Evaluation.{answer_by, answer_of}
 use Rattle.engine_theory.proofs.Laws.{promised, in_range}
 use Rattle.engine_theory.proofs.FlatLaws.{none_enclose}
-use Rattle.millionths_theory.specs.declared.MillionthsAnswer.{MillionthsAnswer}
-use Rattle.millionths_theory.specs.Promise.{widest, Convertible, MillionthsPromise}
+use Rattle.millionths_theory.specs.Promise.{MillionthsAnswer, widest, Convertible, MillionthsPromise}
 use Rattle.millionths_theory.specs.Evaluation.{in_millionths, millionths_of}
 use Rattle.millionths_theory.proofs.Conversion.{converts}
 
@@ -34,7 +33,7 @@ no_wider s =
     by_test (eqb s.model 1) (λ v. v ≤ widest) (λ _. by_row idriss s.period idriss_width (omega arith))
     (λ _. by_row boore_atkinson s.period boore_atkinson_width (omega arith))
 
-convertible : (s : Scenario) (e : Enclosure) → InRange e.median → EnclosesBoth s (shown_ends (A.Enclosed e)) →
+convertible : (s : Scenario) (e : Enclosure ℤ) → InRange e.median → EnclosesBoth s (shown_ends (Ok e)) →
     Convertible (median s) e.median
 convertible s e inside b =
     let low : e.median.low ≡ b.median_low = ap (λ l. get_or l 0 (pos 0)) b.four in
@@ -49,7 +48,7 @@ convertible s e inside b =
 module _ {k : ℕ} {s : Scenario} where
   pub in_millionths_lem : (a : Answer) → AnswerInRange a → AnswerPromise k s a → MillionthsPromise k s (in_millionths a)
   unfolding in_millionths
-  in_millionths_lem (A.Enclosed e) inside p = record {
+  in_millionths_lem (Ok e) inside p = record {
     number = p.number;
     between = λ z. record {
       a = _;
@@ -59,7 +58,7 @@ module _ {k : ℕ} {s : Scenario} where
     };
     refused = λ h. absurd (h (sym p.number));
   }
-  in_millionths_lem (A.Refused j) inside p =
+  in_millionths_lem (Err r) inside p =
       record { number = p.number; between = λ z. absurd (none_enclose (p.enclosed z)); refused = λ _. refl }
 
 -- every answer of which a contract says `r ≡ millionths_of s` keeps the promise
@@ -68,4 +67,4 @@ pub answers : {r : MillionthsAnswer} (s : Scenario) → r ≡ millionths_of s �
 unfolding millionths_of answer_of
 answers s e =
     let k = refusal_of s in
-    (e, rw e (in_millionths_lem (answer_by k s) (in_range s k (λ z. z)) (promised s k (λ z. z))))
+    (e, rw e (in_millionths_lem (answer_by k s) (in_range s k (λ z. z)) (promised s k (λ z. z) (refusal_numbered s))))

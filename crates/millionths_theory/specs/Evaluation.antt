@@ -1,19 +1,16 @@
 -- What is computed. A change of the way of computing swaps these definitions behind their names; callers go by the
 -- promises of specs/Promise, and never by this text.
-use Rattle.std.specs.Prelude.{Bool, cond, ℕ, zero, suc, ◌-◌, leb, ℤ}
+use Rattle.std.specs.Prelude.{Bool, cond, ℕ, zero, suc, ◌-◌, leb, ℤ, Ok, Err}
 use Rattle.std.specs.Int.Signed.{le_z}
 use Rattle.interval_theory.specs.declared.Ends.{Ends}
 use Rattle.interval_theory.specs.Signed.{between_of}
 use Rattle.logarithm_theory.specs.Evaluation.{ln_of}
 use Rattle.scenario_theory.specs.declared.Scenario.{Scenario}
-use Rattle.engine_theory.specs.declared.Answer.{Answer}
-use Rattle.engine_theory.specs.declared.Answer.TheVariants as A
+use Rattle.engine_theory.specs.Promise.{Answer}
 use Rattle.engine_theory.specs.Evaluation.{answer_of}
 use Rattle.millionths_theory.specs.declared.Millionths.{Millionths}
 use Rattle.millionths_theory.specs.declared.Floor.{Floor}
-use Rattle.millionths_theory.specs.declared.MillionthsAnswer.{MillionthsAnswer}
-use Rattle.millionths_theory.specs.declared.MillionthsAnswer.TheVariants as M
-use Rattle.millionths_theory.specs.Promise.{million}
+use Rattle.millionths_theory.specs.Promise.{MillionthsAnswer, million}
 
 -- the engine's ends of ln(k/10^6) for k from 10^6 on, and of −ln(10^6/k) for k before it, of at least 1
 abbrev pub from_million : ℕ → Ends ℤ
@@ -62,8 +59,8 @@ millionths_from e = let a : ℕ = (floor_of e.low).whole in record { low = a; hi
 
 -- of an answer, and of a scenario
 unfoldable pub in_millionths : Answer → MillionthsAnswer
-in_millionths (A.Enclosed e) = M.Between (millionths_from e.median)
-in_millionths (A.Refused k) = M.Refused k
+in_millionths (Ok e) = Ok (millionths_from e.median)
+in_millionths (Err r) = Err r
 
 unfoldable pub millionths_of : Scenario → MillionthsAnswer
 millionths_of s = in_millionths (answer_of s)

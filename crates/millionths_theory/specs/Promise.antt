@@ -1,16 +1,21 @@
 -- What is promised of a median in millionths of g, whatever the engine computes: request W-203.
 use Rattle.std.specs.Prelude.{◌≡◌, List, [], ◌∷◌, ℕ, ◌+◌, ◌/◌, ◌≤◌, pos, ◌+ℤ◌, ◌≤ℤ◌, ℤ}
+use Rattle.std.specs.Prelude.{Result, Ok, Err}
 use Rattle.exact_theory.specs.Fraction.{Fraction, ◌≤q◌}
 use Rattle.exact_theory.specs.Pair.{◌∈◌}
 use Rattle.exact_theory.specs.Logarithm.{ln_pair}
 use Rattle.exact_theory.specs.Formula.{Formula, eval, Defined, Encloses, ends}
 use Rattle.interval_theory.specs.declared.Ends.{Ends}
 use Rattle.scenario_theory.specs.declared.Scenario.{Scenario}
+use Rattle.scenario_theory.specs.declared.Refusal.{Refusal}
+use Rattle.scenario_theory.specs.Numbers.{refusal_number}
 use Rattle.engine_theory.specs.Models.{median}
 use Rattle.engine_theory.specs.Ranges.{median_most}
 use Rattle.millionths_theory.specs.declared.Millionths.{Millionths}
-use Rattle.millionths_theory.specs.declared.MillionthsAnswer.{MillionthsAnswer}
-use Rattle.millionths_theory.specs.declared.MillionthsAnswer.TheVariants as M
+
+-- what answering in millionths gives: two of them, or why the scenario is turned away
+abbrev pub MillionthsAnswer : Type 0
+MillionthsAnswer = Result Millionths Refusal
 
 -- so many are 1 g
 abbrev pub million : ℕ
@@ -57,12 +62,12 @@ FromEnds e m = (f : Formula) → Convertible f e → MillionthsEnds f m.low m.hi
 
 -- the number and the values of each case (document 01): 0 is no refusal, and "A refusal returns its number only"
 abbrev pub millionths_number : MillionthsAnswer → ℕ
-millionths_number (M.Between m) = 0
-millionths_number (M.Refused k) = k
+millionths_number (Ok m) = 0
+millionths_number (Err r) = refusal_number r
 
 abbrev pub millionths_values : MillionthsAnswer → List ℕ
-millionths_values (M.Between m) = m.low ∷ m.high ∷ []
-millionths_values (M.Refused k) = []
+millionths_values (Ok m) = m.low ∷ m.high ∷ []
+millionths_values (Err r) = []
 
 -- the values are two, and what the model of s gives lies between them: "The engine gives whole numbers a and b of
 -- millionths of g"

@@ -1,6 +1,8 @@
 // Medians in millionths of g: their types, what is promised, what is computed, and laws. There is no code.
 #![tactic(auto)]
 
+use scenario_theory::Refusal;
+
 // Two whole numbers of millionths of g.
 #[derive(Clone, Copy)]
 pub struct Millionths {
@@ -8,12 +10,8 @@ pub struct Millionths {
     pub high: u32,
 }
 
-// What answering in millionths gives: two of them, or the number with which it is turned away.
-#[derive(Clone, Copy)]
-pub enum MillionthsAnswer {
-    Between(Millionths),
-    Refused(u8),
-}
+// What answering in millionths gives: two of them, or why the scenario is turned away.
+pub type MillionthsAnswer = Result<Millionths, Refusal>;
 
 // Of some units of a logarithm: the greatest whole number of millionths whose logarithm is surely up to them, and the
 // low end of the next number's logarithm.

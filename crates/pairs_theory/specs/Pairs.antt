@@ -1,7 +1,6 @@
 -- Pairs of the models' formulas at a small fineness, as the checker works them out; another program has computed the
 -- same numbers from exact fractions. Document 01, 'What the numbers mean'.
-use Rattle.std.specs.Prelude.{List, [], ◌∷◌, pos}
-use Rattle.std.proofs.Math.Option.{none, some}
+use Rattle.std.specs.Prelude.{List, [], ◌∷◌, pos, Some, None}
 use Rattle.exact_theory.specs.Fraction.{◌over◌}
 use Rattle.exact_theory.specs.Formula.{stated}
 use Rattle.record_theory.specs.Layout.{scenario_of}
@@ -15,25 +14,25 @@ use Rattle.values_theory.specs.Table.{Check, cut_at, neg}
 -- next to ln 0.03, where the pair reaches two branches
 abbrev pub pairs : List Check
 pairs =
-    cut_at 1 (median (scenario_of (some 1 ∷ some 676 ∷ some 100 ∷ some 4_500 ∷ some 2 ∷ some 75 ∷ none ∷ [])))
+    cut_at 1 (median (scenario_of (Some 1 ∷ Some 676 ∷ Some 100 ∷ Some 4_500 ∷ Some 2 ∷ Some 75 ∷ None ∷ [])))
     (pos 274_689_796_266_994_915_466_518_188_997_902_496_951_795_380_128_349_727_240_714)
     (pos 344_948_681_115_479_763_951_366_673_846_387_345_436_643_864_976_834_575_725_562) ∷
-    cut_at 1 (sigma (scenario_of (some 1 ∷ some 450 ∷ some 0 ∷ some 7_600 ∷ some 0 ∷ some 0 ∷ none ∷ [])))
+    cut_at 1 (sigma (scenario_of (Some 1 ∷ Some 450 ∷ Some 0 ∷ Some 7_600 ∷ Some 0 ∷ Some 0 ∷ None ∷ [])))
     (pos 774_815_706_722_267_805_071_638_375_602_080_412_040_712_292_899_052_755_735_984)
     (pos 775_480_706_722_267_805_071_638_375_602_080_412_040_712_292_899_052_755_735_984) ∷
-    cut_at 2 (sigma (scenario_of (some 1 ∷ some 675 ∷ some 0 ∷ some 7_600 ∷ some 0 ∷ some 750 ∷ none ∷ [])))
+    cut_at 2 (sigma (scenario_of (Some 1 ∷ Some 675 ∷ Some 0 ∷ Some 7_600 ∷ Some 0 ∷ Some 750 ∷ None ∷ [])))
     (pos 764_928_210_230_391_410_627_323_072_987_875_810_669_482_044_282_485_816_079_446)
     (pos 764_934_043_563_724_743_960_656_406_321_209_144_002_815_377_615_819_149_412_779) ∷
-    cut_at 1 (sigma (scenario_of (some 1 ∷ some 790 ∷ some 0 ∷ some 7_600 ∷ some 0 ∷ some 10_000 ∷ none ∷ [])))
+    cut_at 1 (sigma (scenario_of (Some 1 ∷ Some 790 ∷ Some 0 ∷ Some 7_600 ∷ Some 0 ∷ Some 10_000 ∷ None ∷ [])))
     (pos 768_439_766_029_309_477_059_054_586_042_377_574_019_942_972_295_097_723_757_826)
     (pos 768_463_099_362_642_810_392_387_919_375_710_907_353_276_305_628_431_057_091_160) ∷
-    cut_at 1 (sigma (scenario_of (some 2 ∷ some 700 ∷ none ∷ some 7_600 ∷ some 2 ∷ some 40 ∷ some 1_000 ∷ [])))
+    cut_at 1 (sigma (scenario_of (Some 2 ∷ Some 700 ∷ None ∷ Some 7_600 ∷ Some 2 ∷ Some 40 ∷ Some 1_000 ∷ [])))
     (pos 583_122_434_219_634_128_616_243_908_981_336_414_666_355_931_422_953_077_654_151)
     (pos 583_525_630_930_782_510_233_265_939_046_937_452_297_432_735_696_347_627_328_278) ∷
-    cut_at 2 (sigma (scenario_of (some 2 ∷ some 700 ∷ none ∷ some 7_600 ∷ some 2 ∷ some 40 ∷ some 1_000 ∷ [])))
+    cut_at 2 (sigma (scenario_of (Some 2 ∷ Some 700 ∷ None ∷ Some 7_600 ∷ Some 2 ∷ Some 40 ∷ Some 1_000 ∷ [])))
     (pos 583_221_129_246_125_777_688_341_032_537_827_451_368_505_031_847_376_643_985_762)
     (pos 583_422_717_612_795_884_608_301_101_228_607_896_428_236_131_251_571_737_343_811) ∷
-    cut_at 3 (sigma (scenario_of (some 2 ∷ some 700 ∷ none ∷ some 7_600 ∷ some 2 ∷ some 40 ∷ some 1_000 ∷ [])))
+    cut_at 3 (sigma (scenario_of (Some 2 ∷ Some 700 ∷ None ∷ Some 7_600 ∷ Some 2 ∷ Some 40 ∷ Some 1_000 ∷ [])))
     (pos 583_254_337_316_264_447_431_924_559_826_868_234_718_211_188_634_898_563_128_534)
     (pos 583_388_728_327_458_651_542_458_165_983_453_290_566_966_601_723_809_462_137_911) ∷
     cut_at 1 (bnl (row_for 200).site 2_500)

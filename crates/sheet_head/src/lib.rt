@@ -1,20 +1,17 @@
-// A sheet's own number and its count, by how many scenarios there are.
+// How many scenarios a sheet answers, by how many there are.
 #![tactic(auto)]
 
 ghost use Rattle.std.specs.Prelude.{◌≡◌};
 ghost use Rattle.sheet_theory.specs.Evaluation.{head_of};
 
-use sheet_theory::SheetHead;
+use scenario_theory::Refusal;
 
-// With more than 64 scenarios 14, and none is answered; otherwise 0, and all are.
-pub fn head_of(count: usize) -> SheetHead
+// All, but where there are more than 64.
+pub fn head_of(count: usize) -> Result<usize, Refusal>
     ensures { result ≡ head_of count }
 {
     if 64 < count {
-        return SheetHead {
-            number: 14,
-            count: 0,
-        };
+        return Err(Refusal::TooManyScenarios);
     }
-    SheetHead { number: 0, count }
+    Ok(count)
 }

@@ -5,6 +5,7 @@ use Prim.Native.Nat.{ℕ, zero, suc, ◌+◌, ◌-◌, ◌≤◌, ◌<◌}
 use native.Mathlib.Omega.{arith}
 use lib.ListN.{length, get_or, take, replicate, set, length-map}
 use lib.Seq.{length-take-le, take-suc, append_snoc, set_at, take-append-le, take-take, get_or-append-add}
+use Rattle.std.proofs.lemmas.List.{length-take, get_or-take}
 use Rattle.sheet_theory.specs.Promise.{sheet_most}
 use Rattle.sheet_theory.specs.Evaluation.{filled}
 
@@ -35,6 +36,14 @@ module _ {A B : Type 0} (f : A → B) (z : B) where
       ∙ ap (λ (l : List B). l ++ rest)
       (sym (ap (map f) (take-suc xs i d there) ∙ map-append f (take i xs) (get_or xs i d ∷ [])))
       ∙ ap (λ (k : ℕ). map f (take k xs) ++ replicate (sheet_most - k) z) next
+
+  -- so does a store in a turn of a loop over the first n of 64
+  pub filled_turn : (n i : ℕ) (xs : List A) (d : A) {v : B} → length xs ≡ sheet_most → i < length (take n xs) →
+      v ≡ f (get_or (take n xs) i d) → set (filled f z i xs) i v ≡ filled f z (i + 1) xs
+  filled_turn n i xs d long h e =
+      let short = length-take n xs in
+      filled_next i xs d (omega (arith, short)) (omega (arith, short))
+      (e ∙ ap f (get_or-take n xs i d (omega (arith, short))))
 
   -- in front stands f of each, whatever comes after
   at : (n : ℕ) (xs : List A) (rest : List B) (i : ℕ) (d : A) → i < n → n ≤ length xs →

@@ -1,11 +1,14 @@
 -- What is computed for a sheet of scenarios: request W-204.
-use Rattle.std.specs.Prelude.{cond, List, ◌++◌, map, ℕ, ◌-◌, ltb, take, replicate}
+use Rattle.std.specs.Prelude.{if◌then◌else◌, List, ◌++◌, map, ℕ, ◌-◌, nat_lt, take, replicate, Result, Ok, Err}
+use Rattle.std.specs.Result.{result_unwrap_or}
 use Rattle.scenario_theory.specs.declared.Scenario.{Scenario}
+use Rattle.scenario_theory.specs.declared.Refusal.{Refusal}
+use Rattle.scenario_theory.specs.declared.Refusal.TheVariants.{TooManyScenarios}
+use Rattle.scenario_theory.specs.Numbers.{refusal_number}
 use Rattle.engine_theory.specs.declared.FlatAnswer.{FlatAnswer}
 use Rattle.engine_theory.specs.Evaluation.{answer_of}
 use Rattle.engine_theory.specs.Flat.{told}
 use Rattle.sheet_theory.specs.declared.FlatSheet.{FlatSheet}
-use Rattle.sheet_theory.specs.declared.SheetHead.{SheetHead}
 use Rattle.sheet_theory.specs.Promise.{sheet_most, no_answer}
 
 module _ {A B : Type 0} where
@@ -18,22 +21,31 @@ module _ {B : Type 0} where
   abbrev pub column : (FlatAnswer → B) → ℕ → List Scenario → List B
   column field n scenarios = filled (λ s. field (told (answer_of s))) (field no_answer) n scenarios
 
--- "14, more than 64 scenarios, checked before all else; .. the count is 0"; "14 then and 0 otherwise"
-abbrev pub head_of : ℕ → SheetHead
-head_of count = cond (ltb sheet_most count) (record { number = 14; count = 0 }) (record { number = 0; count = count })
+-- how many are answered; or "14, more than 64 scenarios, checked before all else"
+abbrev pub head_of : ℕ → Result ℕ Refusal
+head_of count = if nat_lt sheet_most count then Err TooManyScenarios else Ok count
 
--- the sheet with such a head: so many of the first scenarios are answered
-abbrev pub sheet_with : SheetHead → List Scenario → FlatSheet
-sheet_with head scenarios =
+-- and with 14 none
+abbrev pub answered_count : ℕ → ℕ
+answered_count count = result_unwrap_or (head_of count) 0
+
+-- the sheet with such a number, where so many of the first scenarios are answered
+abbrev pub sheet_by : ℕ → ℕ → List Scenario → FlatSheet
+sheet_by number n scenarios =
     record {
-      number = head.number;
-      count = head.count;
-      median_low = column (λ a. a.median_low) head.count scenarios;
-      median_high = column (λ a. a.median_high) head.count scenarios;
-      sigma_low = column (λ a. a.sigma_low) head.count scenarios;
-      sigma_high = column (λ a. a.sigma_high) head.count scenarios;
-      numbers = column (λ a. a.number) head.count scenarios;
+      number = number;
+      count = n;
+      median_low = column (λ a. a.median_low) n scenarios;
+      median_high = column (λ a. a.median_high) n scenarios;
+      sigma_low = column (λ a. a.sigma_low) n scenarios;
+      sigma_high = column (λ a. a.sigma_high) n scenarios;
+      numbers = column (λ a. a.number) n scenarios;
     }
+
+-- the sheet with such a head: "14 then and 0 otherwise"; with 14 "the count is 0"
+abbrev pub sheet_with : Result ℕ Refusal → List Scenario → FlatSheet
+sheet_with (Ok n) scenarios = sheet_by 0 n scenarios
+sheet_with (Err e) scenarios = sheet_by (refusal_number e) 0 scenarios
 
 -- "Up to 64 scenarios are answered in one call, and the result holds the answers and their count"
 unfoldable pub sheet_of : ℕ → List Scenario → FlatSheet

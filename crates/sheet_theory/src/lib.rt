@@ -1,4 +1,5 @@
 // A sheet of scenarios, answered in one go: its type, what is promised, what is computed, and laws. There is no code.
+// No Result and no slice passes to C, so a sheet has a number, and beside its count an array for each field.
 #![tactic(auto)]
 
 // A sheet of up to 64 answers: number 0, how many there are, and at each place before that count the low and high ends
@@ -15,11 +16,4 @@ pub struct FlatSheet {
     pub sigma_low: [i64; 64],
     pub sigma_high: [i64; 64],
     pub numbers: [u8; 64],
-}
-
-// A sheet's own number and its count.
-#[derive(Clone, Copy)]
-pub struct SheetHead {
-    pub number: u8,
-    pub count: usize,
 }

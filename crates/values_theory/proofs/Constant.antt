@@ -1,7 +1,7 @@
 -- Formulas whose pair is one number at every fineness, found by computing.
 use mathlib.Core.Path.{◌≡◌}
 use mathlib.Core.Bool.{Bool, true, false, ◌&&◌}
-use mathlib.Core.Option.{Option, none, some}
+use Rattle.std.specs.Prelude.{Option, Some, None}
 use Prim.Native.Nat.{ℕ, ◌≤◌}
 use native.Mathlib.Nat.{le_refl, sub_self}
 use borrow.Author.Tests.{le-leb}
@@ -70,8 +70,8 @@ ln_is a n = simp (le-leb a a (le_refl a), sub_self) (record { low = ≈q_refl ze
 
 -- what a test shows, where it passes
 unfoldable pub when : {A : Type 0} (b : Bool) → (T b → A) → Option A
-when true f = some (f tt)
-when false f = none
+when true f = Some (f tt)
+when false f = None
 
 -- e is x at fineness n, and defined
 abbrev pub At : ℕ → Formula → Fraction → Type 0
@@ -85,9 +85,9 @@ pub record Constant (e : Formula) : Type 0 where
 unfoldable pub merged : {e f g : Formula} (op : Fraction → Fraction → Fraction) →
     ((n : ℕ) (x y : Fraction) → At n e x → At n f y → At n g (op x y)) →
     Option (Constant e) → Option (Constant f) → Option (Constant g)
-merged op step none y = none
-merged op step (some x) none = none
-merged op step (some x) (some y) = some (record {
+merged op step None y = None
+merged op step (Some x) None = None
+merged op step (Some x) (Some y) = Some (record {
   number = op x.number y.number;
   at = λ n h. step n x.number y.number (x.at n h) (y.at n h);
 })
@@ -95,23 +95,23 @@ merged op step (some x) (some y) = some (record {
 -- 0 over what is above zero
 unfoldable pub zero_over : {e f : Formula} → Option (Constant e) → Option (Positive f) → Option (Constant (e ⊘ f))
 unfolding eval Defined
-zero_over none q = none
-zero_over (some x) none = none
-zero_over {f = f} (some x) (some q) = when (same x.number zero_q) (λ t. record {
+zero_over None q = None
+zero_over (Some x) None = None
+zero_over {f = f} (Some x) (Some q) = when (same x.number zero_q) (λ t. record {
   number = zero_q;
   at = λ n h. (((x.at n h).0, q.defined n h, q.above n h), none_over_is (eval n f) (is_same (x.at n h).1 t));
 })
 
 -- f is a logarithm above zero
 unfoldable pub positive : (f : Formula) → Option (Positive f)
-positive (stated x) = none
+positive (stated x) = None
 positive (ln a b) = when (leb 1 b && ltb b a) (λ t. search (and_left, and_right, leb→le, ltb→lt, positive_ln))
-positive (root X) = none
-positive (e ⊕ f) = none
-positive (e ⊖ f) = none
-positive (e ⊗ f) = none
-positive (e ⊘ f) = none
-positive (if_up_to e f A B) = none
+positive (root X) = None
+positive (e ⊕ f) = None
+positive (e ⊖ f) = None
+positive (e ⊗ f) = None
+positive (e ⊘ f) = None
+positive (if_up_to e f A B) = None
 
 unfoldable pub ln_constant : (a b : ℕ) → 1 ≤ a → a ≡ b → Constant (ln a b)
 unfolding Defined
@@ -120,11 +120,11 @@ ln_constant a b h e = record { number = zero_q; at = λ n g. rw (← e) ((h, h),
 -- the number, if it is found
 unfoldable pub constant : (e : Formula) → Option (Constant e)
 unfolding eval Defined exactly
-constant (stated x) = some (record { number = x; at = λ n h. (tt, record { low = ≈q_refl x; high = ≈q_refl x }) })
+constant (stated x) = Some (record { number = x; at = λ n h. (tt, record { low = ≈q_refl x; high = ≈q_refl x }) })
 constant (ln a b) = when (leb 1 a && eqb a b) (λ t. search (and_left, and_right, leb→le, eqb→eq, ln_constant))
-constant (root X) = none
+constant (root X) = None
 constant (e ⊕ f) = merged ◌+q◌ (λ n x y p q. ((p.0, q.0), add_is p.1 q.1)) (constant e) (constant f)
 constant (e ⊖ f) = merged ◌-q◌ (λ n x y p q. ((p.0, q.0), sub_is p.1 q.1)) (constant e) (constant f)
 constant (e ⊗ f) = merged ◌*q◌ (λ n x y p q. ((p.0, q.0), mul_is p.1 q.1)) (constant e) (constant f)
 constant (e ⊘ f) = zero_over (constant e) (positive f)
-constant (if_up_to e f A B) = none
+constant (if_up_to e f A B) = None

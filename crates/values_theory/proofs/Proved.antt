@@ -3,8 +3,8 @@
 use mathlib.Core.Path.{◌≡◌, refl, ap}
 use mathlib.Core.Bool.{Bool, true, false, not, ◌&&◌}
 use mathlib.Core.List.{List, [], ◌∷◌}
-use mathlib.Core.Option.{Option, none, some}
 use Prim.Native.Nat.{ℕ, ◌^◌, ◌≤◌}
+use Rattle.std.specs.Prelude.{Option, Some, None}
 use lib.IntN.{ℤ, pos, ◌+ℤ◌}
 use lib.Dec.{T, eqb, leb, eqb→eq, leb→le}
 use Rattle.toolbox_theory.proofs.Tests.{and_left, and_right, every, every_at}
@@ -31,10 +31,10 @@ use Rattle.values_theory.proofs.Constant.{ln_constant, constant}
 -- ---- the test of a row
 
 unfoldable pub same_value : Option ℕ → Option ℕ → Bool
-same_value none none = true
-same_value none (some y) = false
-same_value (some x) none = false
-same_value (some x) (some y) = eqb x y
+same_value None None = true
+same_value None (Some y) = false
+same_value (Some x) None = false
+same_value (Some x) (Some y) = eqb x y
 
 unfoldable pub same_list : List (Option ℕ) → List (Option ℕ) → Bool
 same_list [] [] = true
@@ -44,8 +44,8 @@ same_list (x ∷ xs) (y ∷ ys) = same_value x y && same_list xs ys
 
 -- a number is found, and it is x
 unfoldable pub matches : {e : Formula} → Option (Constant e) → Fraction → Bool
-matches none x = false
-matches (some c) x = same c.number x
+matches None x = false
+matches (Some c) x = same c.number x
 
 -- x in 10^-60, rounded down, is z
 unfoldable pub cut_to : Fraction → ℤ → Bool
@@ -62,10 +62,10 @@ passes (reads s xs) = eqb (reading_number (read_of s)) 0 && same_list (reading_v
 
 same_value_lem : (x y : Option ℕ) → T (same_value x y) → x ≡ y
 unfolding same_value
-same_value_lem none none t = refl
-same_value_lem none (some y) t = absurd t
-same_value_lem (some x) none t = absurd t
-same_value_lem (some x) (some y) t = ap some (eqb→eq x y t)
+same_value_lem None None t = refl
+same_value_lem None (Some y) t = absurd t
+same_value_lem (Some x) None t = absurd t
+same_value_lem (Some x) (Some y) t = ap Some (eqb→eq x y t)
 
 same_list_lem : (xs ys : List (Option ℕ)) → T (same_list xs ys) → xs ≡ ys
 unfolding same_list
@@ -81,8 +81,8 @@ is_cut x z t = search (and_left, and_right)
 at_every_lem : {e : Formula} (x : Fraction) (c : Option (Constant e)) → T (matches c x) →
     (n : ℕ) → 1 ≤ n → Defined n e × HasEnds (eval n e) x x
 unfolding matches
-at_every_lem x none t n h = absurd t
-at_every_lem x (some c) t n h = ((c.at n h).0, is_same (c.at n h).1 t)
+at_every_lem x None t n h = absurd t
+at_every_lem x (Some c) t n h = ((c.at n h).0, is_same (c.at n h).1 t)
 
 pub holds : (c : Check) → T (passes c) → Holds c
 unfolding passes Holds Defined

@@ -1,6 +1,6 @@
 -- The values that document 01, 'Values to try', marks P: one table, and what it is that a row of it holds.
 use Rattle.std.specs.Prelude.{◌≡◌, List, [], ◌∷◌, ℕ, ◌^◌, ◌≤◌, ◌<◌, ℤ, pos, neg_ℤ, ◌+ℤ◌, length, get_or}
-use Rattle.std.proofs.Math.Option.{Option, none, some}
+use Rattle.std.specs.Prelude.{Option, Some, None}
 use Rattle.exact_theory.specs.Fraction.{Fraction, ◌over◌, zero_q, ◌≤q◌, ◌<q◌, ◌≈q◌}
 use Rattle.exact_theory.specs.Pair.{Pair}
 use Rattle.exact_theory.specs.Formula.{Formula, ln, root, eval, Defined}
@@ -64,7 +64,7 @@ values =
     at_every (bnl (boore_atkinson.row_for 200).site 7_600) (pos 0 over 1) ∷
     -- "bytes 37 01 BC 02 E8 03 02 4B 00 are Idriss, M 7.00, 10 km, 760 m/s, code 2, 0.075 s"
     reads (0x37 ∷ 0x01 ∷ 0xBC ∷ 0x02 ∷ 0xE8 ∷ 0x03 ∷ 0x02 ∷ 0x4B ∷ 0x00 ∷ [])
-    (some 1 ∷ some 700 ∷ some 1_000 ∷ some 7_600 ∷ some 2 ∷ some 75 ∷ none ∷ some 9 ∷ []) ∷
+    (Some 1 ∷ Some 700 ∷ Some 1_000 ∷ Some 7_600 ∷ Some 2 ∷ Some 75 ∷ None ∷ Some 9 ∷ []) ∷
     []
 
 -- the shared statement: every row holds
