@@ -1,16 +1,16 @@
 // Answers a scenario, from its fields or from its record, with ends of median and sigma that enclose the exact values,
-// in whole units of 10^-9 or in doubles, or with the number of its refusal.
+// in whole units of 10^-9 or in doubles, or with the reason why it is refused.
 #![tactic(auto)]
 
-ghost use Rattle.std.specs.Prelude.{◌≡◌, ◌+◌, ◌<◌};
+ghost use Rattle.std.specs.Prelude.{◌≡◌, ◌+◌};
 ghost use Rattle.scenario_theory.specs.declared.Place.TheVariants as P;
 ghost use Rattle.scenario_theory.specs.Refusal.{idriss, boore_atkinson, refusal_of};
-ghost use Rattle.scenario_theory.specs.Rows.{row_count, idriss_row, boore_atkinson_row};
+ghost use Rattle.scenario_theory.specs.Rows.{idriss_row, boore_atkinson_row, first_in, last_in};
 ghost use Rattle.scenario_theory.specs.Accepted.{Placed, PlacedOn};
 ghost use Rattle.record_theory.specs.Outcome.{scenario_in, read_refusal};
 ghost use Rattle.idriss_theory.specs.Tables.{table_for};
 ghost use Rattle.engine_theory.specs.Promise.{AnswerPromise, NextPromise, DoublesPromise};
-ghost use Rattle.engine_theory.specs.Steps.{enclosure_on, first_in, last_in, idriss_rows_of, boore_atkinson_rows_of};
+ghost use Rattle.engine_theory.specs.Steps.{enclosure_on, idriss_rows_of, boore_atkinson_rows_of};
 ghost use Rattle.engine_theory.specs.Evaluation.{idriss_median_ends, idriss_enclosure_of, boore_atkinson_enclosure_of};
 ghost use Rattle.engine_theory.specs.Evaluation.{answer_of, record_answer_of, next_of, in_doubles};
 
@@ -23,95 +23,56 @@ use interval_theory::Ends;
 use row_neighbours::{boore_atkinson_neighbours, idriss_neighbours};
 use scenario_theory::{Basis, Place, ProjectionDistance, RuptureDistance, Scenario};
 
-// The first and the last of the rows of a place.
-fn first_row(place: Place) -> usize
-    ensures { result ≡ first_in place }
-{
-    match place {
-        Place::Row(k) => k,
-        Place::Between(k) => k,
-    }
-}
-
-fn last_row(place: Place) -> usize
-    requires { last_in place < row_count }
-    ensures { result ≡ last_in place }
-{
-    match place {
-        Place::Row(k) => k,
-        Place::Between(k) => k + 1,
-    }
-}
-
 // The median of Idriss at a place, by those of its rows.
-fn idriss_median(
-    magnitude: u16,
-    distance: RuptureDistance,
-    velocity: u16,
-    mechanism: u8,
-    period: u16,
-    place: Place,
-    rows: TwoRows,
-) -> Ends<i64>
-    requires placed { Placed idriss idriss_row magnitude distance.0 velocity mechanism period place }
-    requires rows_value { rows ≡ idriss_rows_of magnitude distance.0 velocity mechanism (first_in place)
+fn idriss_median(s: Scenario, distance: RuptureDistance, place: Place, rows: TwoRows) -> Ends<i64>
+    requires placed { Placed idriss idriss_row s.magnitude distance.0 s.velocity s.mechanism s.period place }
+    requires rows_value { rows ≡ idriss_rows_of s.magnitude distance.0 s.velocity s.mechanism (first_in place)
         (last_in place) }
-    ensures { result ≡ idriss_median_ends (table_for magnitude) magnitude distance.0 velocity mechanism period }
+    ensures { result ≡ idriss_median_ends (table_for s.magnitude) s.magnitude distance.0 s.velocity s.mechanism
+        s.period }
 {
     match place {
         Place::Row(_) => ends(rows.upper),
         Place::Between(k) => {
-            let step = period_step::step(idriss_neighbours(k), period);
+            let step = period_step::step(idriss_neighbours(k), s.period);
             interpolated(rows.lower, rows.upper, step.part, step.whole)
         }
     }
 }
 
-fn by_idriss(
-    magnitude: u16,
-    distance: RuptureDistance,
-    velocity: u16,
-    mechanism: u8,
-    period: u16,
-    place: Place,
-) -> Enclosure<i64>
-    requires { Placed idriss idriss_row magnitude distance.0 velocity mechanism period place }
-    ensures { result ≡ idriss_enclosure_of magnitude distance.0 velocity mechanism period }
+fn by_idriss(s: Scenario, distance: RuptureDistance, place: Place) -> Enclosure<i64>
+    requires { Placed idriss idriss_row s.magnitude distance.0 s.velocity s.mechanism s.period place }
+    ensures { result ≡ idriss_enclosure_of s.magnitude distance.0 s.velocity s.mechanism s.period }
 {
     let rows = idriss::median_rows(
-        idriss_tables::takes_table_3(magnitude),
-        first_row(place),
-        last_row(place),
-        magnitude,
+        idriss_tables::takes_table_3(s.magnitude),
+        place.first(),
+        place.last(),
+        s.magnitude,
         distance,
-        velocity,
-        mechanism,
+        s.velocity,
+        s.mechanism,
     );
     Enclosure {
-        median: idriss_median(
-            magnitude, distance, velocity, mechanism, period, place, rows,
-        ),
-        sigma: idriss_sigma::sigma(period, magnitude),
+        median: idriss_median(s, distance, place, rows),
+        sigma: idriss_sigma::sigma(s.period, s.magnitude),
     }
 }
 
 // By Boore and Atkinson between row k and the next, with the medians by these.
 fn between_boore_atkinson(
-    magnitude: u16,
+    s: Scenario,
     distance: ProjectionDistance,
-    velocity: u16,
-    mechanism: u8,
-    period: u16,
     k: usize,
     rows: TwoRows,
 ) -> Enclosure<i64>
-    requires placed { Placed boore_atkinson boore_atkinson_row magnitude distance.0 velocity mechanism period
+    requires placed { Placed boore_atkinson boore_atkinson_row s.magnitude distance.0 s.velocity s.mechanism s.period
         (P.Between k) }
-    requires rows_value { rows ≡ boore_atkinson_rows_of magnitude distance.0 velocity mechanism k (k + 1) }
-    ensures { result ≡ boore_atkinson_enclosure_of magnitude distance.0 velocity mechanism period }
+    requires rows_value { rows ≡ boore_atkinson_rows_of s.magnitude distance.0 s.velocity s.mechanism k (k + 1) }
+    ensures { result ≡ boore_atkinson_enclosure_of s.magnitude distance.0 s.velocity s.mechanism s.period }
 {
-    let step = period_step::step(boore_atkinson_neighbours(k), period);
-    let sigmas = boore_atkinson_sigma::sigma_rows(k, mechanism);
+    let step = period_step::step(boore_atkinson_neighbours(k), s.period);
+    let sigmas = boore_atkinson_sigma::sigma_rows(k, s.mechanism);
     Enclosure {
         median: interpolated(rows.lower, rows.upper, step.part, step.whole),
         sigma: interpolated(sigmas.lower, sigmas.upper, step.part, step.whole),
@@ -120,67 +81,49 @@ fn between_boore_atkinson(
 
 // By Boore and Atkinson at row k, with the median by it.
 fn at_boore_atkinson_row(
-    magnitude: u16,
+    s: Scenario,
     distance: ProjectionDistance,
-    velocity: u16,
-    mechanism: u8,
-    period: u16,
     k: usize,
     rows: TwoRows,
 ) -> Enclosure<i64>
-    requires placed { Placed boore_atkinson boore_atkinson_row magnitude distance.0 velocity mechanism period
+    requires placed { Placed boore_atkinson boore_atkinson_row s.magnitude distance.0 s.velocity s.mechanism s.period
         (P.Row k) }
-    requires rows_value { rows ≡ boore_atkinson_rows_of magnitude distance.0 velocity mechanism k k }
-    ensures { result ≡ boore_atkinson_enclosure_of magnitude distance.0 velocity mechanism period }
+    requires rows_value { rows ≡ boore_atkinson_rows_of s.magnitude distance.0 s.velocity s.mechanism k k }
+    ensures { result ≡ boore_atkinson_enclosure_of s.magnitude distance.0 s.velocity s.mechanism s.period }
 {
     Enclosure {
         median: ends(rows.upper),
-        sigma: boore_atkinson_sigma::sigma(k, mechanism),
+        sigma: boore_atkinson_sigma::sigma(k, s.mechanism),
     }
 }
 
-fn by_boore_atkinson(
-    magnitude: u16,
-    distance: ProjectionDistance,
-    velocity: u16,
-    mechanism: u8,
-    period: u16,
-    place: Place,
-) -> Enclosure<i64>
-    requires { Placed boore_atkinson boore_atkinson_row magnitude distance.0 velocity mechanism period place }
-    ensures { result ≡ boore_atkinson_enclosure_of magnitude distance.0 velocity mechanism period }
+fn by_boore_atkinson(s: Scenario, distance: ProjectionDistance, place: Place) -> Enclosure<i64>
+    requires { Placed boore_atkinson boore_atkinson_row s.magnitude distance.0 s.velocity s.mechanism s.period place }
+    ensures { result ≡ boore_atkinson_enclosure_of s.magnitude distance.0 s.velocity s.mechanism s.period }
 {
     let rows = boore_atkinson::median_rows(
-        first_row(place),
-        last_row(place),
-        magnitude,
+        place.first(),
+        place.last(),
+        s.magnitude,
         distance,
-        velocity,
-        mechanism,
+        s.velocity,
+        s.mechanism,
     );
     match place {
-        Place::Row(k) => at_boore_atkinson_row(
-            magnitude, distance, velocity, mechanism, period, k, rows,
-        ),
-        Place::Between(k) => between_boore_atkinson(
-            magnitude, distance, velocity, mechanism, period, k, rows,
-        ),
+        Place::Row(k) => at_boore_atkinson_row(s, distance, k, rows),
+        Place::Between(k) => between_boore_atkinson(s, distance, k, rows),
     }
 }
 
 // By what the checks have found an answer to rest on: the model and the distance that it reads, and the place of the
-// period. The fields pass one by one, as a struct would be stored and read back.
-fn on_basis(magnitude: u16, velocity: u16, mechanism: u8, period: u16, basis: Basis) -> Enclosure<i64>
-    requires { PlacedOn magnitude velocity mechanism period basis }
-    ensures { result ≡ enclosure_on magnitude velocity mechanism period basis }
+// period.
+fn on_basis(s: Scenario, basis: Basis) -> Enclosure<i64>
+    requires { PlacedOn s.magnitude s.velocity s.mechanism s.period basis }
+    ensures { result ≡ enclosure_on s.magnitude s.velocity s.mechanism s.period basis }
 {
     match basis {
-        Basis::Idriss(distance, place) => {
-            by_idriss(magnitude, distance, velocity, mechanism, period, place)
-        }
-        Basis::BooreAtkinson(distance, place) => {
-            by_boore_atkinson(magnitude, distance, velocity, mechanism, period, place)
-        }
+        Basis::Idriss(distance, place) => by_idriss(s, distance, place),
+        Basis::BooreAtkinson(distance, place) => by_boore_atkinson(s, distance, place),
     }
 }
 
@@ -189,18 +132,8 @@ pub fn answer_fields(s: Scenario) -> Answer
     ensures value { result ≡ answer_of s }
     ensures answer_promise { AnswerPromise (refusal_of s) s result }
 {
-    let rupture = s.rupture;
-    let projection = s.projection;
-    let basis = scenario::check(
-        s.model,
-        s.magnitude,
-        rupture,
-        s.velocity,
-        s.mechanism,
-        s.period,
-        projection,
-    )?;
-    Ok(on_basis(s.magnitude, s.velocity, s.mechanism, s.period, basis))
+    let basis = scenario::check(s)?;
+    Ok(on_basis(s, basis))
 }
 
 // Answers the record at the front of any bytes, and says how long it is.
@@ -209,10 +142,7 @@ pub fn answer_next(bytes: &[u8]) -> NextAnswer
     ensures next_promise { NextPromise bytes.now result }
 {
     let (s, length, basis) = record_reading::read_with_basis(bytes)?;
-    Ok((
-        on_basis(s.magnitude, s.velocity, s.mechanism, s.period, basis),
-        length,
-    ))
+    Ok((on_basis(s, basis), length))
 }
 
 // Answers the record at the front of any bytes.

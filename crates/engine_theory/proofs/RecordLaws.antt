@@ -80,10 +80,10 @@ module _ (s : List ℕ) where
   next_read {a} {n} e =
       ⊎_elim
       (λ p.
-        let both : ◌≡◌ {A = Enclosure ℤ × ℕ} (enclosure_of (scenario_in s), length_by (map_in s)) (a, n) = cc in
-        let same = ap (λ x. x.0) both in
-        let size = ap (λ x. x.1) both in
-        record { read = rw (p.0, size) refl; answer = rw (read_accepted p.0, same) refl })
+      let both : ◌≡◌ {A = Enclosure ℤ × ℕ} (enclosure_of (scenario_in s), length_by (map_in s)) (a, n) = cc in
+      let same = ap (λ x. x.0) both in
+      let size = ap (λ x. x.1) both in
+      record { read = rw (p.0, size) refl; answer = rw (read_accepted p.0, same) refl })
       (λ p. let z : ◌≡◌ {A = ℕ} 0 1 = cc in absurd (omega arith))
       (unless_is (read_refusal s) e)
 

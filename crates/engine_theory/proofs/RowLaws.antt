@@ -23,7 +23,8 @@ use Rattle.scenario_theory.specs.Accepted.{Placed}
 use Rattle.scenario_theory.proofs.RowLaws.{idriss_row_lem, boore_atkinson_row_lem, idriss_printed_lem, printed_itself}
 use Rattle.scenario_theory.proofs.RowLaws.{boore_atkinson_printed}
 use Rattle.scenario_theory.proofs.RowLaws.{idriss_between, boore_atkinson_between, at_row, between_of_lem}
-use Rattle.engine_theory.specs.Steps.{step_around, first_in, last_in}
+use Rattle.scenario_theory.specs.Rows.{first_in, last_in}
+use Rattle.engine_theory.specs.Steps.{step_around}
 
 -- ---- from the row below a period to the row above it
 

@@ -4,8 +4,6 @@ use Rattle.interpolation_theory.specs.declared.Step.{Step}
 use Rattle.interpolation_theory.specs.declared.TwoRows.{TwoRows}
 use Rattle.interpolation_theory.specs.Evaluation.{two_rows_of}
 use Rattle.interpolation_theory.specs.Steps.{step_of}
-use Rattle.scenario_theory.specs.declared.Place.{Place}
-use Rattle.scenario_theory.specs.declared.Place.TheVariants as P
 use Rattle.scenario_theory.specs.declared.Basis.{Basis}
 use Rattle.scenario_theory.specs.declared.Basis.TheVariants as B
 use Rattle.scenario_theory.specs.Refusal.{Limits}
@@ -26,15 +24,6 @@ enclosure_on M Vs mechanism T (B.BooreAtkinson d p) = boore_atkinson_enclosure_o
 -- the step from the row below a period to the row above it
 abbrev pub step_around : Limits → ℕ → Step
 step_around m T = step_of T (neighbour_below m T) (neighbour_above m T)
-
--- the rows of a place, from the first to the last
-abbrev pub first_in : Place → ℕ
-first_in (P.Row k) = k
-first_in (P.Between k) = k
-
-abbrev pub last_in : Place → ℕ
-last_in (P.Row k) = k
-last_in (P.Between k) = k + 1
 
 -- the medians by row `last` and, where k is less, by the row before it
 abbrev pub idriss_rows_of : ℕ → ℕ → ℕ → ℕ → ℕ → ℕ → TwoRows

@@ -23,7 +23,9 @@ pub type NextAnswer = Result<(Enclosure<i64>, usize), Refusal>;
 // What answering in doubles gives: each of the four equals its whole number.
 pub type DoublesAnswer = Result<Enclosure<f64>, Refusal>;
 
-// An answer as C has it: number 0 and the low and high ends of the median and of sigma, natural logarithms in units of 10^-9; or
+// The struct below is the C interface, to which no Result passes: a number beside the ends.
+
+// An answer: number 0 and the low and high ends of the median and of sigma, natural logarithms in units of 10^-9; or
 // the number of the refusal, and zeros for the ends.
 #[repr(C)]
 #[derive(Clone, Copy)]

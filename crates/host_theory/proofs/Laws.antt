@@ -100,5 +100,9 @@ unfolding write_of
 writes x lent e f =
     let p = by_number (λ r. HostWritingPromise x lent (told_writing r)) (write_refusal x lent)
     (λ z. record { number = sym z; written = λ h. refl; zero = λ h. absurd (h z) })
-    (λ n. record { number = numbered (write_refusal x lent) n (write_numbered x lent); written = λ h. absurd (n h); zero = λ h. refl }) in
+    (λ n. record {
+      number = numbered (write_refusal x lent) n (write_numbered x lent);
+      written = λ h. absurd (n h);
+      zero = λ h. refl;
+    }) in
     (e, (rw e p, f))

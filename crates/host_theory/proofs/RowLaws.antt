@@ -10,8 +10,8 @@ use Rattle.scenario_theory.specs.declared.Refusal.{Refusal}
 use Rattle.scenario_theory.specs.declared.Refusal.TheVariants as E
 use Rattle.scenario_theory.specs.Checks.{◌when◌, ◌otherwise◌}
 use Rattle.scenario_theory.specs.Refusal.{Limits, idriss, boore_atkinson, beyond_periods}
-use Rattle.scenario_theory.specs.Neighbours.{has_row, neighbour_below, neighbour_above, idriss_printed, rows, row_periods_by}
-use Rattle.scenario_theory.specs.Neighbours.{row_periods_of}
+use Rattle.scenario_theory.specs.Neighbours.{has_row, neighbour_below, neighbour_above, idriss_printed, rows}
+use Rattle.scenario_theory.specs.Neighbours.{row_periods_by, row_periods_of}
 use Rattle.scenario_theory.specs.Numbers.{refusal_number}
 use Rattle.scenario_theory.specs.Rows.{idriss_row, boore_atkinson_row, BetweenRows}
 use Rattle.scenario_theory.proofs.RowLaws.{idriss_between, boore_atkinson_between}
@@ -19,7 +19,8 @@ use Rattle.host_theory.specs.declared.HostPeriods.{HostPeriods}
 use Rattle.host_theory.specs.Told.{told_periods}
 use Rattle.host_theory.specs.Promise.{rows_refusal, HostRowsPromise}
 
-refused_keeps : (r : Refusal) (T : ℕ) → 1 ≤ refusal_number r → HostRowsPromise (refusal_number r) T (told_periods (Err r))
+refused_keeps : (r : Refusal) (T : ℕ) → 1 ≤ refusal_number r →
+    HostRowsPromise (refusal_number r) T (told_periods (Err r))
 refused_keeps r T some = record {
   number = refl;
   below = λ h _. absurd (omega (arith, h));

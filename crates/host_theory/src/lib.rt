@@ -1,6 +1,6 @@
 // What C is told and tells: plain structs, their definitions, what is promised of them, laws, and the ways between them
-// and the engine's types. There is no other code. No Option and no Result passes to C, so beside a value stands a flag
-// or a number in each of its structs.
+// and the engine's types. There is no other code.
+// A flag or a number beside a value is the C interface, to which no Option or Result passes.
 #![tactic(auto)]
 
 ghost use Rattle.std.specs.Prelude.{◌≡◌};
@@ -38,7 +38,8 @@ pub struct HostScenarios {
     pub places: [HostScenario; 64],
 }
 
-// A distance as C has it: its flag, 0 or 1, and its number, 0 where it is absent.
+// A distance as C has it: its flag, 0 or 1, and its number, 0 where it is absent. It is the form of the two fields for
+// each distance in HostScenario.
 #[derive(Clone, Copy)]
 pub struct Flagged {
     pub present: u8,
@@ -96,6 +97,9 @@ pub struct HostWriting {
     pub length: usize,
 }
 
+// ---- the ways from and to C
+
+// The scenario that C has.
 impl From<HostScenario> for Scenario {
     ghost from_gives = { λ s x. x ≡ scenario_from s };
 
@@ -125,6 +129,7 @@ impl From<Option<u16>> for Flagged {
     }
 }
 
+// The fields of a scenario for C.
 impl From<Scenario> for HostScenario {
     ghost from_gives = { λ x s. s ≡ fields_of x };
 

@@ -73,6 +73,7 @@ pub fn row_at(table_3: bool, k: usize) -> Row
 }
 
 // Whether the magnitude takes Table 3, and not Table 2.
+#[tactic(auto, unfolding(idriss_theory::specs::Tables::takes_table3))]
 pub fn takes_table_3(magnitude: u16) -> bool
     ensures { result ≡ takes_table3 magnitude }
 {

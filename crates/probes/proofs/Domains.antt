@@ -1,6 +1,7 @@
 -- What is taken: k is a row, and the checks accept the scenario.
 use mathlib.Core.Path.{◌≡◌, refl, ◌∙◌, sym}
 use mathlib.Core.Bool.{false≢true, Bool, true, false, cond}
+use lib.IntN.{ℤ}
 use Prim.Native.Nat.{ℕ, ◌<◌}
 use borrow.Author.Tests.{eqb-true, leb-false}
 use lib.Dec.{eqb, leb}
@@ -9,7 +10,9 @@ use Rattle.scenario_theory.specs.Rows.{row_count}
 use Rattle.scenario_theory.specs.Refusal.{idriss, boore_atkinson, refusal_by_model, refusal_of}
 use Rattle.scenario_theory.specs.Accepted.{Within}
 use Rattle.scenario_theory.proofs.RefusalLaws.{within_at, none_applies}
-use Rattle.probes.specs.Probe.{idriss_scenario, boore_atkinson_scenario, is_taken}
+use Rattle.interval_theory.specs.declared.Ends.{Ends}
+use Rattle.probes.specs.declared.ProbedEnds.{ProbedEnds}
+use Rattle.probes.specs.Probe.{idriss_scenario, boore_atkinson_scenario, is_taken, no_ends, told, where_taken}
 
 pub record Taken (k : ℕ) (s : Scenario) : Type 0 where
   pub row : k < row_count
@@ -23,6 +26,14 @@ taken k s says e = go (leb row_count k) refl (sym says ∙ e)
     go : (b : Bool) → leb row_count k ≡ b → cond b false (eqb (refusal_of s) 0) ≡ true → Taken k s
     go true p e = absurd (false≢true e)
     go false p e = record { row = leb-false row_count k p; accepted = eqb-true (refusal_of s) 0 e }
+
+-- so the ends are told where they are taken, and none elsewhere
+module _ (k : ℕ) (s : Scenario) (e : Ends ℤ) {b : Bool} (says : b ≡ is_taken k s) where
+  pub ends_told : {r : ProbedEnds} → b ≡ true → r ≡ told e → r ≡ where_taken k s e
+  ends_told t same = rw (← says, t) same
+
+  pub none_told : b ≡ false → no_ends ≡ where_taken k s e
+  none_told f = rw (← says, f) refl
 
 -- a scenario of one distance that is accepted is within the limits of its model
 module _ {M R Vs mechanism T : ℕ} where

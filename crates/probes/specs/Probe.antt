@@ -1,13 +1,11 @@
 -- What the probes answer, for any numbers: the ends of logarithm, root and models where the arguments are taken, and
 -- none elsewhere.
-use Rattle.std.specs.Prelude.{Bool, false, cond, ℕ, ◌-◌, ◌^◌, eqb, leb, ltb, pos, ℤ}
+use Rattle.std.specs.Prelude.{Bool, false, cond, ℕ, ◌-◌, ◌^◌, eqb, leb, ltb, pos, ℤ, Option, Some, None}
 use Rattle.interval_theory.specs.declared.Ends.{Ends}
 use Rattle.logarithm_theory.specs.Evaluation.{ln_of, root_of}
 use Rattle.scenario_theory.specs.declared.Scenario.{Scenario}
-use Rattle.scenario_theory.specs.declared.Lookup.{Lookup}
-use Rattle.scenario_theory.specs.declared.Lookup.TheVariants as L
-use Rattle.scenario_theory.specs.declared.Rupture.TheVariants as R
-use Rattle.scenario_theory.specs.declared.Projection.TheVariants as Q
+use Rattle.scenario_theory.specs.declared.Place.{Place}
+use Rattle.scenario_theory.specs.declared.Place.TheVariants as P
 use Rattle.scenario_theory.specs.Refusal.{refusal_of}
 use Rattle.scenario_theory.specs.Rows.{row_count, idriss_place, boore_atkinson_place}
 use Rattle.scenario_theory.specs.Accepted.{scenario_with}
@@ -24,11 +22,14 @@ use Rattle.probes.specs.declared.ProbedPlace.{ProbedPlace}
 abbrev pub no_ln : Probed
 no_ln = record { low = 1; high = 0 }
 
+abbrev pub told_ln : Ends ℕ → Probed
+told_ln e = record { low = e.low; high = e.high }
+
 -- the ends of ln(a/b), unless b is 0, a is below b or a is 2^29 or more
 unfoldable pub probed_ln : ℕ → ℕ → Probed
 probed_ln a b =
     cond (eqb b 0) no_ln
-    (cond (ltb a b) no_ln (cond (leb 536_870_912 a) no_ln (record { low = (ln_of a b).low; high = (ln_of a b).high })))
+    (cond (ltb a b) no_ln (cond (leb 536_870_912 a) no_ln (told_ln (ln_of a b))))
 
 -- the root's lower value at fineness 131072; where x is 2^29 or more, 2^64 − 1
 unfoldable pub probed_root : ℕ → ℕ
@@ -44,10 +45,10 @@ told e = record { low = e.low; high = e.high }
 
 -- scenarios of each model that have its own distance alone: magnitude, distance, velocity, mechanism and period
 abbrev pub idriss_scenario : ℕ → ℕ → ℕ → ℕ → ℕ → Scenario
-idriss_scenario M d Vs mechanism T = scenario_with 1 M (R.At (record { 0 = d })) Vs mechanism T Q.Absent
+idriss_scenario M d Vs mechanism T = scenario_with 1 M (Some (record { 0 = d })) Vs mechanism T None
 
 abbrev pub boore_atkinson_scenario : ℕ → ℕ → ℕ → ℕ → ℕ → Scenario
-boore_atkinson_scenario M d Vs mechanism T = scenario_with 2 M R.Absent Vs mechanism T (Q.At (record { 0 = d }))
+boore_atkinson_scenario M d Vs mechanism T = scenario_with 2 M None Vs mechanism T (Some (record { 0 = d }))
 
 -- k is a row, and s is accepted
 unfoldable pub is_taken : ℕ → Scenario → Bool
@@ -80,10 +81,10 @@ probed_nonlinear k v low high =
 
 -- ---- where a period stands
 
-abbrev pub told_place : Lookup → ProbedPlace
-told_place (L.Row k) = record { kind = 0; row = k }
-told_place (L.Between k) = record { kind = 1; row = k }
-told_place L.Outside = record { kind = 2; row = 0 }
+abbrev pub told_place : Option Place → ProbedPlace
+told_place (Some (P.Row k)) = record { kind = 0; row = k }
+told_place (Some (P.Between k)) = record { kind = 1; row = k }
+told_place None = record { kind = 2; row = 0 }
 
 unfoldable pub probed_place : ℕ → ℕ → ProbedPlace
 probed_place model period = told_place (cond (eqb model 1) (idriss_place period) (boore_atkinson_place period))

@@ -4,6 +4,9 @@
 
 ghost use Rattle.std.specs.Prelude.{◌≡◌, cond, ◌+◌, ◌≤◌, ◌<◌};
 ghost use Rattle.record_theory.specs.Outcome.{length_by, map_refusal};
+ghost use Rattle.record_theory.specs.Steps.{check_with};
+
+use scenario_theory::Refusal;
 
 // The numbers of fields that are absent.
 pub const ABSENT_VELOCITY: u16 = 7_600;
@@ -17,26 +20,23 @@ pub fn more_if(n: usize, b: bool, k: usize) -> usize
     requires { n + k < 256 }
     ensures { (result ≡ n + cond b k 0) × (result ≤ n + k) }
 {
-    if b {
-        return n + k;
-    }
-    n
+    if b { n + k } else { n }
 }
 
 // The checks of the map byte.
-pub fn map_refusal(m: u8) -> u8
-    ensures { result ≡ map_refusal m }
+pub fn map_check(m: u8) -> Result<(), Refusal>
+    ensures { result ≡ check_with (map_refusal m) }
 {
     if 128 <= m {
-        return 8;
+        return Err(Refusal::ReservedBit);
     }
     if m % 4 != 3 {
-        return 9;
+        return Err(Refusal::MissingField);
     }
     if m == 0 {
-        return 10;
+        return Err(Refusal::EmptyMap);
     }
-    0
+    Ok(())
 }
 
 // The length of the record whose map byte is m.

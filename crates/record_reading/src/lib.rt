@@ -6,10 +6,10 @@ ghost use Rattle.record_theory.specs.Layout.{Bytes};
 ghost use Rattle.record_theory.specs.Outcome.{read_of, rest_at, rest_of, ReadPromise};
 ghost use Rattle.record_theory.specs.Steps.{based_reading_of, reading_in};
 
-use record_fields::{absent_written, fields, front_refusal};
+use record_fields::{absent_written, fields, front_check};
 use record_map::record_length;
 pub use record_theory::{BasedReading, Reading};
-use scenario_theory::Check;
+use scenario_theory::Refusal;
 
 // Reads the record at the front of s, with what an answer rests on, so that nobody has to look it up again.
 pub fn read_with_basis(s: &[u8]) -> BasedReading
@@ -17,29 +17,14 @@ pub fn read_with_basis(s: &[u8]) -> BasedReading
     ensures read_promise { ReadPromise s.now (reading_in result) }
     ensures bytes { Bytes s.now }
 {
-    let front = front_refusal(s);
-    if front != 0 {
-        return BasedReading::Refused(front);
-    }
+    front_check(s)?;
     let m = s[0];
     let x = fields(s);
     if absent_written(m, x) {
-        return BasedReading::Refused(11);
+        return Err(Refusal::DefaultWritten);
     }
-    let rupture = x.rupture;
-    let projection = x.projection;
-    match scenario::check(
-        x.model,
-        x.magnitude,
-        rupture,
-        x.velocity,
-        x.mechanism,
-        x.period,
-        projection,
-    ) {
-        Check::Accepted(basis) => BasedReading::Read(x, record_length(m), basis),
-        Check::Refused(k) => BasedReading::Refused(k),
-    }
+    let basis = scenario::check(x)?;
+    Ok((x, record_length(m), basis))
 }
 
 // Reads the record at the front of s. The laws by which reading and writing undo each other ask that s is bytes.
@@ -48,10 +33,8 @@ pub fn read(s: &[u8]) -> Reading
     ensures read_promise { ReadPromise s.now result }
     ensures bytes { Bytes s.now }
 {
-    match read_with_basis(s) {
-        BasedReading::Read(x, n, _) => Reading::Read(x, n),
-        BasedReading::Refused(k) => Reading::Refused(k),
-    }
+    let (x, n, _) = read_with_basis(s)?;
+    Ok((x, n))
 }
 
 // The part of s after the record that is read at its front, none of a refused read: its bytes, and that it lies in s,
@@ -61,7 +44,7 @@ pub fn rest(s: &[u8]) -> &[u8]
     ensures ref_ptr_value { result.ref_ptr ≡ (s.entry.ref_ptr.0, rest_at s.now + s.entry.ref_ptr.1) }
 {
     match read(s) {
-        Reading::Read(_, n) => &s[n..],
-        Reading::Refused(_) => &s[..0],
+        Ok((_, n)) => &s[n..],
+        Err(_) => &s[..0],
     }
 }

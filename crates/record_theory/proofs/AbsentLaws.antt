@@ -1,10 +1,11 @@
 -- What a record has of one field, a number that may be left out where it is the absent one.
-use mathlib.Core.Path.{◌≡◌, refl, sym}
-use mathlib.Core.Bool.{true≢false, Bool, true, false, cond, ◌&&◌, ◌||◌}
-use Rattle.std.specs.Prelude.{Option, Some, None}
+use mathlib.Core.Path.{◌≡◌, refl, sym, ap}
+use mathlib.Core.Bool.{true≢false, Bool, true, false, not, cond, ◌&&◌, ◌||◌}
+use Rattle.std.specs.Prelude.{Option, Some, None, option_map, MatchOption, IsSomeAnd}
 use Prim.Native.Nat.{ℕ, ◌<◌}
 use borrow.Author.Tests.{eqb-true, eqb-false, eq-eqb, ne_eqb}
 use lib.Dec.{eqb}
+use Rattle.std.specs.Bool.{then_some}
 use Rattle.scenario_theory.specs.Distances.{is_absent}
 use Rattle.scenario_theory.proofs.RefusalLaws.{Below}
 use Rattle.record_theory.specs.Layout.{◌unless◌, ◌or◌}
@@ -39,7 +40,22 @@ or_unless false x d others =
 pub is_absent_lem : (x d : ℕ) → is_absent (x unless d) ≡ eqb x d
 is_absent_lem x d = unless_cases (λ o. is_absent o ≡ eqb x d) x d (λ e. sym (eq-eqb x d e)) (λ n. sym (ne_eqb x d n))
 
+-- as a program leaves it out
+pub then_unless : (x d : ℕ) → then_some (not (eqb x d)) x ≡ x unless d
+then_unless x d = go (eqb x d)
+  where
+    go : (b : Bool) → then_some (not b) x ≡ cond b None (Some x)
+    go true = refl
+    go false = refl
+
 -- by its bit
 pub bit_or : (b : Bool) (x d : ℕ) → cond b (Some x) None or d ≡ cond b x d
 bit_or true x d = refl
 bit_or false x d = refl
+
+-- what `map` makes of it
+pub mapped : {A B : Type 0} {Q : A → B → Type 0} (f : A → B) (o : Option A) (r : Option B) →
+    MatchOption o (r ≡ None) (λ x. IsSomeAnd r (Q x)) → ((x : A) (y : B) → Q x y → y ≡ f x) → r ≡ option_map f o
+mapped f None r h g = h
+mapped f (Some x) None h g = absurd h
+mapped f (Some x) (Some y) h g = ap Some (g x y h)

@@ -6,6 +6,7 @@ use native.Mathlib.Nat.{le_of_suc-le-suc, not-suc-le-zero}
 use native.Mathlib.Omega.{arith}
 use lib.ListN.{length, take, drop}
 use lib.Seq.{get_or-drop}
+use Rattle.std.specs.Int.{w16, to_le_bytes}
 use Rattle.record_theory.specs.Layout.{Bytes, bytes_of, number_of}
 
 pub bytes_drop : (n : ℕ) (s : List ℕ) → Bytes s → Bytes (drop n s)
@@ -31,6 +32,10 @@ bytes_back (suc (suc w)) (a ∷ s) h l =
     let low : (a + 256 * n) % 256 ≡ a = omega (arith, h 0) in
     let high : (a + 256 * n) / 256 ≡ n = omega (arith, h 0) in
     rw (low, high, bytes_back (suc w) s (λ i. h (suc i)) (le_of_suc-le-suc l))
+
+-- two bytes as the library has them
+pub le_bytes : (x : ℕ) → x < 65_536 → to_le_bytes w16 x ≡ bytes_of 2 x
+le_bytes x h = let high : x / 256 % 256 ≡ x / 256 = omega arith in rw high refl
 
 -- ---- lists of bytes
 

@@ -99,9 +99,9 @@ pub word_at : (s : List ℕ) (at : ℕ) → number_at 2 at s ≡ get_or s at 0 +
 word_at s at = rw (front_word (drop at s), get_or-drop at s 0 0, get_or-drop at s 1 0, add-zero at)
 
 -- a field that stands with its absent number, one of three; a distance has none
-pub absent_written_is : (m : ℕ) (x : Scenario) {r a b c : Bool} → StandBy m x → r ≡ (a || (b || c)) →
-    a ≡ (eqb x.velocity absent_velocity && stands 3 m) → b ≡ (eqb x.mechanism absent_mechanism && stands 4 m) →
-    c ≡ (eqb x.period absent_period && stands 5 m) → r ≡ absent_written layout m x
+pub absent_written_is : (m : ℕ) (x : Scenario) → StandBy m x →
+    absent_written layout m x ≡
+    ((eqb x.velocity absent_velocity && stands 3 m) ||
+    ((eqb x.mechanism absent_mechanism && stands 4 m) || (eqb x.period absent_period && stands 5 m)))
 unfolding absent_written
-absent_written_is m x d e a b c =
-    simp (e, a, b, c, is_absent_lem, d.rupture, d.projection, and-not_self, or-false)
+absent_written_is m x d = simp (is_absent_lem, d.rupture, d.projection, and-not_self, or-false)

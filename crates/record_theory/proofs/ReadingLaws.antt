@@ -37,6 +37,11 @@ pub fails : (k : ℕ) {e : Refusal} → check_with k ≡ Err e → (k ≡ 0 → 
 fails zero q = let z : ◌≡◌ {A = ℕ} 0 1 = cc in absurd (omega arith)
 fails (suc k) q = (λ z. absurd (omega arith), cc)
 
+-- the first of two that fails
+pub first_fails : (j k : ℕ) {e : Refusal} → check_with j ≡ Err e → Err e ≡ check_with (j otherwise k)
+first_fails zero k q = let z : ◌≡◌ {A = ℕ} 0 1 = cc in absurd (omega arith)
+first_fails (suc j) k q = sym q
+
 -- ---- the number of reading is one of document 01's
 
 pub read_numbered : (s : List ℕ) → read_refusal s ≤ 15
@@ -92,28 +97,31 @@ module _ (s : List ℕ) where
   unfolding based_reading_of
   refused k e h = rw (← e) (is_refused k _ (Err (with_number k)) h)
 
-  pub refused_front : {e : Refusal} → check_with (front_refusal s) ≡ Err e → Err e ≡ based_reading_of s
-  refused_front q =
+  pub front_fails : {e : Refusal} → check_with (front_refusal s) ≡ Err e → Err e ≡ based_reading_of s
+  front_fails q =
       let f = fails (front_refusal s) q in
       ap Err (sym f.1) ∙ refused (front_refusal s) (is_first (front_refusal s) _ f.0 ∙ in_two s) f.0
 
-  module _ (front : front_refusal s ≡ 0) where
-    numbers : field_refusal (map_in s) (scenario_in s) ≡ read_refusal s
-    numbers = rw front at (in_two s)
+  -- the checks of the front pass, and x is the scenario that is read
+  module _ {x : Scenario} (front : check_with (front_refusal s) ≡ Ok tt) (is : x ≡ scenario_in s) where
+    numbers : field_refusal (map_in s) x ≡ read_refusal s
+    numbers = let front = passes (front_refusal s) front in rw is (rw front at (in_two s))
 
-    fields : based_reading (scenario_in s) (length_by (map_in s)) (field_check (map_in s) (scenario_in s)) ≡
-        based_reading_of s
+    fields : based_reading x (length_by (map_in s)) (field_check (map_in s) x) ≡ based_reading_of s
     unfolding field_check based_reading_of
     fields =
-        let x = scenario_in s in
-        rw (← numbers) (of_unless (based_reading x (length_by (map_in s))) (field_refusal (map_in s) x) (basis_of x) _)
+        rw (← numbers, ← is)
+        (of_unless (based_reading x (length_by (map_in s))) (field_refusal (map_in s) x) (basis_of x) _)
 
-    pub refused_fields : {e : Refusal} → field_check (map_in s) (scenario_in s) ≡ Err e → Err e ≡ based_reading_of s
-    refused_fields e = rw e at fields
+    pub default_fails : absent_written layout (map_in s) x ≡ true → Err E.DefaultWritten ≡ based_reading_of s
+    default_fails e = rw (← written_out (map_in s) x e) at fields
 
-    pub is_read : {b : Basis} → field_check (map_in s) (scenario_in s) ≡ Ok b →
-        Ok (scenario_in s, length_by (map_in s), b) ≡ based_reading_of s
-    is_read e = rw e at fields
+    module _ (apart : absent_written layout (map_in s) x ≡ false) where
+      pub check_fails : {e : Refusal} → check_of x ≡ Err e → Err e ≡ based_reading_of s
+      check_fails e = rw (← not_written_out (map_in s) x apart (sym e)) at fields
+
+      pub is_read : {b : Basis} → check_of x ≡ Ok b → Ok (x, length_by (map_in s), b) ≡ based_reading_of s
+      is_read e = rw (← not_written_out (map_in s) x apart (sym e)) at fields
 
   -- ---- the contract of reading: that left out
 

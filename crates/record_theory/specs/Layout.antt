@@ -1,7 +1,7 @@
 -- The record of a scenario: a map byte, then the fields whose bits stand.
 -- Document 01, 'Records and doubles', unless another place is named; document 02, W-202, for the distances.
 use Rattle.std.specs.Prelude.{Bool, false, cond, ◌&&◌, ◌||◌, List, [], ◌∷◌, ◌++◌, ℕ, zero, suc, ◌+◌, ◌*◌, ◌/◌, ◌%◌, ◌^◌}
-use Rattle.std.specs.Prelude.{◌<◌, eqb, get_or, take, drop, Option, Some, None}
+use Rattle.std.specs.Prelude.{◌<◌, eqb, get_or, take, drop, Option, Some, None, unwrap_or}
 use Rattle.scenario_theory.specs.declared.Scenario.{Scenario}
 use Rattle.scenario_theory.specs.Distances.{rupture_number, rupture_of, projection_number, projection_of, is_absent}
 
@@ -13,8 +13,7 @@ x unless d = cond (eqb x d) None (Some x)
 infix 40 ◌or◌
 -- the number that a record has of a field, d where the field is left out
 abbrev pub ◌or◌ : Option ℕ → ℕ → ℕ
-None or d = d
-(Some x) or d = x
+x or d = unwrap_or x d
 
 -- "An absent velocity is 7600, mechanism 9, period 0"
 abbrev pub absent_velocity : ℕ

@@ -38,6 +38,7 @@ fn place(periods: &[u16], first: usize, period: u16) -> Option<Place>
 }
 
 // Where a period stands in Idriss's tables, or that it is outside them.
+#[tactic(auto, unfolding(scenario_theory::specs::Rows::idriss_place))]
 pub fn idriss_place(period: u16) -> Option<Place>
     ensures { result ≡ idriss_place period }
 {
@@ -45,6 +46,7 @@ pub fn idriss_place(period: u16) -> Option<Place>
 }
 
 // Where a period stands in Boore-Atkinson's tables, or that it is outside them.
+#[tactic(auto, unfolding(scenario_theory::specs::Rows::boore_atkinson_place))]
 pub fn boore_atkinson_place(period: u16) -> Option<Place>
     ensures { result ≡ boore_atkinson_place period }
 {

@@ -6,7 +6,7 @@ use Rattle.std.specs.Prelude.{Option, Some, None, Result, Ok, Err}
 use mathlib.Core.List.{[], ◌∷◌}
 use Prim.Native.Nat.{ℕ, zero, suc}
 use native.Mathlib.Omega.{arith}
-use borrow.Author.Tests.{eqb-true}
+use borrow.Author.Tests.{eqb-true, ne_eqb}
 use lib.Dec.{eqb}
 use Rattle.toolbox_theory.specs.Lists.{among}
 use Rattle.scenario_theory.specs.declared.Scenario.{Scenario}
@@ -45,62 +45,57 @@ last_number basis p true = refl
 last_number basis p false = refl
 
 -- 2 to 5 by the limits that the code has of a model
-module _ (l : ModelLimits) (M R Vs mechanism : ℕ) where
-  pub fails_2 : beyond (l.magnitude.0 to l.magnitude.1) M ≡ true → Err E.Magnitude ≡ limit_check l M R Vs mechanism
+module _ (l : ModelLimits) (s : Scenario) (R : ℕ) where
+  pub fails_2 : beyond (l.magnitude.0 to l.magnitude.1) s.magnitude ≡ true → Err E.Magnitude ≡ limit_check l s R
   unfolding limit_check limit_number
   fails_2 e = rw e refl
 
-  module _ (two : beyond (l.magnitude.0 to l.magnitude.1) M ≡ false) where
-    pub fails_3 : beyond (0 to l.distance) R ≡ true → Err E.Distance ≡ limit_check l M R Vs mechanism
+  module _ (two : beyond (l.magnitude.0 to l.magnitude.1) s.magnitude ≡ false) where
+    pub fails_3 : beyond (0 to l.distance) R ≡ true → Err E.Distance ≡ limit_check l s R
     unfolding limit_check limit_number
     fails_3 e = rw (two, e) refl
 
     module _ (three : beyond (0 to l.distance) R ≡ false) where
-      pub fails_4 : beyond (l.velocity.0 to l.velocity.1) Vs ≡ true → Err E.Velocity ≡ limit_check l M R Vs mechanism
+      pub fails_4 : beyond (l.velocity.0 to l.velocity.1) s.velocity ≡ true → Err E.Velocity ≡ limit_check l s R
       unfolding limit_check limit_number
       fails_4 e = rw (two, three, e) refl
 
-      module _ (four : beyond (l.velocity.0 to l.velocity.1) Vs ≡ false) where
-        pub fails_5 : not (among (0 ∷ 1 ∷ 2 ∷ 3 ∷ l.mechanism ∷ []) mechanism) ≡ true →
-            Err E.Mechanism ≡ limit_check l M R Vs mechanism
+      module _ (four : beyond (l.velocity.0 to l.velocity.1) s.velocity ≡ false) where
+        pub fails_5 : not (among (0 ∷ 1 ∷ 2 ∷ 3 ∷ l.mechanism ∷ []) s.mechanism) ≡ true →
+            Err E.Mechanism ≡ limit_check l s R
         unfolding limit_check limit_number
         fails_5 e = rw (two, three, four, e) refl
 
-        pub none_fails : not (among (0 ∷ 1 ∷ 2 ∷ 3 ∷ l.mechanism ∷ []) mechanism) ≡ false →
-            Ok tt ≡ limit_check l M R Vs mechanism
+        pub none_fails : not (among (0 ∷ 1 ∷ 2 ∷ 3 ∷ l.mechanism ∷ []) s.mechanism) ≡ false →
+            Ok tt ≡ limit_check l s R
         unfolding limit_check limit_number
         none_fails e = rw (two, three, four, e) refl
 
 -- by these limits and the distance R the checks of s are those of m
 abbrev LimitsOf : Limits → Scenario → ModelLimits → ℕ → Type 0
-LimitsOf m s l R =
-    refusal_by m s ≡ (limit_number l s.magnitude R s.velocity s.mechanism otherwise 6 when beyond_periods s.period)
+LimitsOf m s l R = refusal_by m s ≡ (limit_number l s R otherwise 6 when beyond_periods s.period)
 
 module _ (m : Limits) (row : ℕ → ℕ) (basis : Place → Basis) (s : Scenario) (l : ModelLimits) (R : ℕ)
     (limits : LimitsOf m s l R) where
-  abbrev first_four : ℕ
-  first_four = limit_number l s.magnitude R s.velocity s.mechanism
-
   abbrev four_check : ℕ → Result (Unit {0}) Refusal
   four_check n = unless_refused n (Ok tt) (Err (with_number n))
 
-  limit_fails : {e : Refusal} → limit_check l s.magnitude R s.velocity s.mechanism ≡ Err e →
-      Err e ≡ check_by m row basis s
+  limit_fails : {e : Refusal} → limit_check l s R ≡ Err e → Err e ≡ check_by m row basis s
   unfolding limit_check check_by
-  limit_fails {e} q = go first_four refl q
+  limit_fails {e} q = go (limit_number l s R) refl q
     where
-      go : (n : ℕ) → first_four ≡ n → four_check n ≡ Err e → Err e ≡ check_by m row basis s
+      go : (n : ℕ) → limit_number l s R ≡ n → four_check n ≡ Err e → Err e ≡ check_by m row basis s
       go zero p q = let z : ◌≡◌ {A = ℕ} 0 1 = cc in absurd (omega arith)
       go (suc n) p q = let same : with_number (suc n) ≡ e = cc in rw (limits, p) (ap Err (sym same))
 
   -- and the last, the period's
-  last_check : {c : Option Place} → limit_check l s.magnitude R s.velocity s.mechanism ≡ Ok tt →
+  last_check : {c : Option Place} → limit_check l s R ≡ Ok tt →
       c ≡ unless_refused (6 when beyond_periods s.period) (Some (place_by m row s.period)) None →
       based_on basis c ≡ check_by m row basis s
   unfolding limit_check check_by
-  last_check {c} q h = go first_four refl q
+  last_check {c} q h = go (limit_number l s R) refl q
     where
-      go : (n : ℕ) → first_four ≡ n → four_check n ≡ Ok tt → based_on basis c ≡ check_by m row basis s
+      go : (n : ℕ) → limit_number l s R ≡ n → four_check n ≡ Ok tt → based_on basis c ≡ check_by m row basis s
       go zero p q = rw (h, limits, p) (last_number basis (place_by m row s.period) (beyond_periods s.period))
       go (suc n) p q = let z : ◌≡◌ {A = ℕ} 0 1 = cc in absurd (omega arith)
 
@@ -111,60 +106,15 @@ first_of_five zero zero (suc k) m n = refl
 first_of_five zero (suc j) k m n = refl
 first_of_five (suc i) j k m n = refl
 
-of_column : (m : Limits) (M R Vs mechanism T : ℕ) →
-    (2 when beyond m.magnitude M otherwise
-    3 when beyond m.distance R otherwise
-    4 when beyond m.velocity Vs otherwise
-    5 when not (among m.mechanisms mechanism) otherwise
-    6 when beyond_periods T) ≡
-    ((2 when beyond m.magnitude M otherwise
-    3 when beyond m.distance R otherwise
-    4 when beyond m.velocity Vs otherwise
-    5 when not (among m.mechanisms mechanism)) otherwise
-    6 when beyond_periods T)
-of_column m M R Vs mechanism T =
-    first_of_five (2 when beyond m.magnitude M) (3 when beyond m.distance R) (4 when beyond m.velocity Vs)
-    (5 when not (among m.mechanisms mechanism)) (6 when beyond_periods T)
-
-module _ (basis : Place → Basis) (M Vs mechanism T : ℕ) where
-  module _ (d : RuptureDistance) where
-    abbrev by_rupture_distance : Scenario
-    by_rupture_distance = scenario_with 1 M (Some d) Vs mechanism T None
-
-    idriss_limits : LimitsOf idriss by_rupture_distance (code_limits idriss 4) d.0
-    unfolding refusal_by limit_number
-    idriss_limits = of_column idriss M d.0 Vs mechanism T
-
-    pub idriss_fails : {e : Refusal} → limit_check (code_limits idriss 4) M d.0 Vs mechanism ≡ Err e →
-        Err e ≡ check_by idriss idriss_row basis by_rupture_distance
-    idriss_fails = limit_fails idriss idriss_row basis by_rupture_distance _ _ idriss_limits
-
-    pub idriss_last : {c : Option Place} → limit_check (code_limits idriss 4) M d.0 Vs mechanism ≡ Ok tt →
-        c ≡ idriss_place T → based_on basis c ≡ check_by idriss idriss_row basis by_rupture_distance
-    unfolding idriss_place
-    idriss_last q h =
-        last_check idriss idriss_row basis by_rupture_distance _ _ idriss_limits q
-        (h ∙ placed 0 idriss idriss_row idriss_listed T)
-
-  module _ (d : ProjectionDistance) where
-    abbrev by_projection_distance : Scenario
-    by_projection_distance = scenario_with 2 M None Vs mechanism T (Some d)
-
-    boore_atkinson_limits : LimitsOf boore_atkinson by_projection_distance (code_limits boore_atkinson 9) d.0
-    unfolding refusal_by limit_number
-    boore_atkinson_limits = of_column boore_atkinson M d.0 Vs mechanism T
-
-    pub boore_atkinson_fails : {e : Refusal} → limit_check (code_limits boore_atkinson 9) M d.0 Vs mechanism ≡ Err e →
-        Err e ≡ check_by boore_atkinson boore_atkinson_row basis by_projection_distance
-    boore_atkinson_fails = limit_fails boore_atkinson boore_atkinson_row basis by_projection_distance _ _ boore_atkinson_limits
-
-    pub boore_atkinson_last : {c : Option Place} →
-        limit_check (code_limits boore_atkinson 9) M d.0 Vs mechanism ≡ Ok tt → c ≡ boore_atkinson_place T →
-        based_on basis c ≡ check_by boore_atkinson boore_atkinson_row basis by_projection_distance
-    unfolding boore_atkinson_place
-    boore_atkinson_last q h =
-        last_check boore_atkinson boore_atkinson_row basis by_projection_distance _ _ boore_atkinson_limits q
-        (h ∙ placed 1 boore_atkinson boore_atkinson_row boore_atkinson_listed T)
+-- so they are of a model, by the distance that it reads
+limits_of_column : (m : Limits) (s : Scenario) (mechanism : ℕ) {R : ℕ} → m.reads s ≡ Some R → m.distance.low ≡ 0 →
+    m.mechanisms ≡ 0 ∷ 1 ∷ 2 ∷ 3 ∷ mechanism ∷ [] → LimitsOf m s (code_limits m mechanism) R
+unfolding refusal_by limit_number
+limits_of_column m s mechanism {R} reads low codes =
+    rw (reads, low, codes)
+    (first_of_five (2 when beyond m.magnitude s.magnitude) (3 when beyond (0 to m.distance.high) R)
+    (4 when beyond m.velocity s.velocity) (5 when not (among (0 ∷ 1 ∷ 2 ∷ 3 ∷ mechanism ∷ []) s.mechanism))
+    (6 when beyond_periods s.period))
 
 -- ---- all checks
 
@@ -181,21 +131,59 @@ exceeded s e =
     let b = both_stand (projection_number s.projection) (rupture_number s.rupture) e in
     simp (b.0, b.1, and-false, e) refl
 
-module _ (M Vs mechanism T : ℕ) where
-  pub idriss_checked : (d : RuptureDistance) (projection : Option ProjectionDistance) {c : Result Basis Refusal} →
-      exceeds (projection_number projection) (Some d.0) ≡ false →
-      c ≡ check_by idriss idriss_row (B.Idriss d) (scenario_with 1 M (Some d) Vs mechanism T None) →
-      c ≡ check_of (scenario_with 1 M (Some d) Vs mechanism T projection)
-  unfolding check_of refusal_of lacks_distance projection_exceeds refusal_by_model basis_of check_by refusal_by
-  idriss_checked d projection e h = h ∙ rw e refl
+module _ (s : Scenario) (near : projection_exceeds s ≡ false) where
+  module _ (model : s.model ≡ 1) where
+    pub idriss_lacks : s.rupture ≡ None → Err E.MissingField ≡ check_of s
+    unfolding check_of refusal_of lacks_distance
+    idriss_lacks e = rw (model, e) refl
 
-  pub boore_atkinson_checked : (d : ProjectionDistance) (rupture : Option RuptureDistance) {c : Result Basis Refusal} →
-      exceeds (Some d.0) (rupture_number rupture) ≡ false →
-      c ≡ check_by boore_atkinson boore_atkinson_row (B.BooreAtkinson d)
-      (scenario_with 2 M None Vs mechanism T (Some d)) →
-      c ≡ check_of (scenario_with 2 M rupture Vs mechanism T (Some d))
-  unfolding check_of refusal_of lacks_distance projection_exceeds refusal_by_model basis_of check_by refusal_by
-  boore_atkinson_checked d rupture e h = h ∙ rw e refl
+    module _ {d : RuptureDistance} (reads : s.rupture ≡ Some d) where
+      idriss_checked : check_by idriss idriss_row (B.Idriss d) s ≡ check_of s
+      unfolding check_of refusal_of lacks_distance refusal_by_model basis_of check_by
+      idriss_checked = rw (near, model, reads) refl
+
+      idriss_limits : LimitsOf idriss s (code_limits idriss 4) d.0
+      idriss_limits = limits_of_column idriss s 4 (ap rupture_number reads) refl refl
+
+      pub idriss_fails : {e : Refusal} → limit_check (code_limits idriss 4) s d.0 ≡ Err e → Err e ≡ check_of s
+      idriss_fails q = limit_fails idriss idriss_row (B.Idriss d) s _ _ idriss_limits q ∙ idriss_checked
+
+      pub idriss_last : {c : Option Place} → limit_check (code_limits idriss 4) s d.0 ≡ Ok tt →
+          c ≡ idriss_place s.period → based_on (B.Idriss d) c ≡ check_of s
+      unfolding idriss_place
+      idriss_last q h =
+          last_check idriss idriss_row (B.Idriss d) s _ _ idriss_limits q
+          (h ∙ placed 0 idriss idriss_row idriss_listed s.period) ∙ idriss_checked
+
+  module _ (model : s.model ≡ 2) where
+    pub boore_atkinson_lacks : s.projection ≡ None → Err E.MissingField ≡ check_of s
+    unfolding check_of refusal_of lacks_distance
+    boore_atkinson_lacks e = rw (model, e) refl
+
+    module _ {d : ProjectionDistance} (reads : s.projection ≡ Some d) where
+      boore_atkinson_checked : check_by boore_atkinson boore_atkinson_row (B.BooreAtkinson d) s ≡ check_of s
+      unfolding check_of refusal_of lacks_distance refusal_by_model basis_of check_by
+      boore_atkinson_checked = rw (near, model, reads) refl
+
+      boore_atkinson_limits : LimitsOf boore_atkinson s (code_limits boore_atkinson 9) d.0
+      boore_atkinson_limits = limits_of_column boore_atkinson s 9 (ap projection_number reads) refl refl
+
+      pub boore_atkinson_fails : {e : Refusal} → limit_check (code_limits boore_atkinson 9) s d.0 ≡ Err e →
+          Err e ≡ check_of s
+      boore_atkinson_fails q =
+          limit_fails boore_atkinson boore_atkinson_row (B.BooreAtkinson d) s _ _ boore_atkinson_limits q ∙
+          boore_atkinson_checked
+
+      pub boore_atkinson_last : {c : Option Place} → limit_check (code_limits boore_atkinson 9) s d.0 ≡ Ok tt →
+          c ≡ boore_atkinson_place s.period → based_on (B.BooreAtkinson d) c ≡ check_of s
+      unfolding boore_atkinson_place
+      boore_atkinson_last q h =
+          last_check boore_atkinson boore_atkinson_row (B.BooreAtkinson d) s _ _ boore_atkinson_limits q
+          (h ∙ placed 1 boore_atkinson boore_atkinson_row boore_atkinson_listed s.period) ∙ boore_atkinson_checked
+
+  pub no_model : (s.model ≡ 1 → ⊥) → (s.model ≡ 2 → ⊥) → Err E.Model ≡ check_of s
+  unfolding check_of refusal_of lacks_distance refusal_by_model
+  no_model p q = simp (ne_eqb _ 1 p, ne_eqb _ 2 q, near) refl
 
 -- ---- the periods of the rows, as the checks of a scenario look them up
 
@@ -215,21 +203,15 @@ module _ (T : ℕ) where
   by_boore_atkinson None h = h
 
   idriss_looks_up : LooksUp 1 T (check_of (plain_scenario 1 T))
-  unfolding row_periods_of limit_check limit_number
+  unfolding row_periods_of limit_check limit_number projection_exceeds
   idriss_looks_up =
-      let none : limit_check (code_limits idriss 4) 700 0 7_600 0 ≡ Ok tt = refl in
-      let checked = idriss_checked 700 7_600 0 T (record { 0 = 0 }) _ refl
-      (idriss_last _ _ _ _ _ (record { 0 = 0 }) none refl) in
-      subst (LooksUp 1 T) checked
+      subst (LooksUp 1 T) (idriss_last (plain_scenario 1 T) refl refl refl refl refl)
       (by_idriss_lem (idriss_place T) (idriss_in_table T, idriss_periods_lem T))
 
   boore_atkinson_looks_up : LooksUp 2 T (check_of (plain_scenario 2 T))
-  unfolding row_periods_of limit_check limit_number
+  unfolding row_periods_of limit_check limit_number projection_exceeds
   boore_atkinson_looks_up =
-      let none : limit_check (code_limits boore_atkinson 9) 700 0 7_600 0 ≡ Ok tt = refl in
-      let checked = boore_atkinson_checked 700 7_600 0 T (record { 0 = 0 }) _ refl
-      (boore_atkinson_last _ _ _ _ _ (record { 0 = 0 }) none refl) in
-      subst (LooksUp 2 T) checked
+      subst (LooksUp 2 T) (boore_atkinson_last (plain_scenario 2 T) refl refl refl refl refl)
       (by_boore_atkinson (boore_atkinson_place T) (boore_atkinson_in_table T, boore_atkinson_periods T))
 
 pub looks_up : (model T : ℕ) → InTables (check_of (plain_scenario model T)) ×
@@ -308,7 +290,7 @@ module _ (s : Scenario) where
   failed {e} p =
       ⊎_elim (λ q. let d = based q.0 in let z : ◌≡◌ {A = ℕ} 0 1 = cc in absurd (omega arith))
       (λ q.
-        let same : with_number (refusal_of s) ≡ e = cc in
-        let number = sym (ap refusal_number same) ∙ numbered (refusal_of s) q.0 (refusal_numbered s) in
-        record { number = number; reason = same; some = q.0 })
+      let same : with_number (refusal_of s) ≡ e = cc in
+      let number = sym (ap refusal_number same) ∙ numbered (refusal_of s) q.0 (refusal_numbered s) in
+      record { number = number; reason = same; some = q.0 })
       (unless_is (refusal_of s) p)

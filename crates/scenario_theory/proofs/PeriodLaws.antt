@@ -20,7 +20,7 @@ use Rattle.scenario_theory.specs.Neighbours.{has_row, neighbour_below, neighbour
 use Rattle.scenario_theory.specs.Neighbours.{row_periods_by}
 use Rattle.scenario_theory.specs.Rows.{BetweenRows, place_by, idriss_row, boore_atkinson_row, row_count}
 use Rattle.scenario_theory.specs.Rows.{idriss_place}
-use Rattle.scenario_theory.specs.Rows.{boore_atkinson_place, periods_at, InTable}
+use Rattle.scenario_theory.specs.Rows.{boore_atkinson_place, periods_at, InTable, first_in}
 use Rattle.scenario_theory.proofs.RowLaws.{Listed, place, placed, between_rows, idriss_row_lem, boore_atkinson_row_lem}
 use Rattle.scenario_theory.proofs.RowLaws.{idriss_listed, boore_atkinson_listed, idriss_printed_lem}
 use Rattle.scenario_theory.proofs.RowLaws.{printed_itself, boore_atkinson_printed}
@@ -94,3 +94,8 @@ unfolding boore_atkinson_place
 boore_atkinson_periods t =
     periods_by_row 1 boore_atkinson boore_atkinson_row boore_atkinson_listed boore_atkinson_row_lem t (λ t. t)
     (0 ∷ boore_atkinson.periods) boore_atkinson_printed (λ t e. refl)
+
+-- the first of the rows of a place is in the table where the last is
+pub first_in_table : (p : Place) → InTable p → first_in p < row_count
+first_in_table (P.Row k) h = h
+first_in_table (P.Between k) h = omega (arith, h)

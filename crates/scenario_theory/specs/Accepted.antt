@@ -19,7 +19,7 @@ use Rattle.scenario_theory.specs.Numbers.{with_number}
 use Rattle.scenario_theory.specs.Rows.{idriss_row, boore_atkinson_row, place_by, row_list, periods_at, InTable}
 
 -- the scenario that has the fields
-abbrev pub scenario_with : 
+abbrev pub scenario_with :
     ℕ → ℕ → Option RuptureDistance → ℕ → ℕ → ℕ → Option ProjectionDistance → Scenario
 scenario_with model magnitude rupture velocity mechanism period projection =
     record {
@@ -44,17 +44,17 @@ code_limits m mechanism =
       mechanism = mechanism;
     }
 
--- 2 to 5 by such limits
-unfoldable pub limit_number : ModelLimits → ℕ → ℕ → ℕ → ℕ → ℕ
-limit_number l M R Vs mechanism =
-    2 when beyond (l.magnitude.0 to l.magnitude.1) M otherwise
+-- 2 to 5 by such limits, where R is the distance that the model reads
+unfoldable pub limit_number : ModelLimits → Scenario → ℕ → ℕ
+limit_number l s R =
+    2 when beyond (l.magnitude.0 to l.magnitude.1) s.magnitude otherwise
     3 when beyond (0 to l.distance) R otherwise
-    4 when beyond (l.velocity.0 to l.velocity.1) Vs otherwise
-    5 when not (among (0 ∷ 1 ∷ 2 ∷ 3 ∷ l.mechanism ∷ []) mechanism)
+    4 when beyond (l.velocity.0 to l.velocity.1) s.velocity otherwise
+    5 when not (among (0 ∷ 1 ∷ 2 ∷ 3 ∷ l.mechanism ∷ []) s.mechanism)
 
-unfoldable pub limit_check : ModelLimits → ℕ → ℕ → ℕ → ℕ → Result (Unit {0}) Refusal
-limit_check l M R Vs mechanism =
-    let k : ℕ = limit_number l M R Vs mechanism in
+unfoldable pub limit_check : ModelLimits → Scenario → ℕ → Result (Unit {0}) Refusal
+limit_check l s R =
+    let k : ℕ = limit_number l s R in
     unless_refused k (Ok tt) (Err (with_number k))
 
 -- 2 to 6 by the limits of a model, with what an answer rests on by the place of the period

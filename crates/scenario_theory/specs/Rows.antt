@@ -24,6 +24,15 @@ boore_atkinson_row T = place_in (0 ∷ boore_atkinson.periods) T
 abbrev pub place_by : Limits → (ℕ → ℕ) → ℕ → Place
 place_by m row T = cond (has_row m T) (P.Row (row T)) (P.Between (row (neighbour_below m T)))
 
+-- the rows of a place, from the first to the last
+abbrev pub first_in : Place → ℕ
+first_in (P.Row k) = k
+first_in (P.Between k) = k
+
+abbrev pub last_in : Place → ℕ
+last_in (P.Row k) = k
+last_in (P.Between k) = k + 1
+
 -- what is known of a period that is answered and has no row of its own
 pub record BetweenRows (m : Limits) (row : ℕ → ℕ) (T : ℕ) : Type 0 where
   pub first : among m.periods (neighbour_below m T) ≡ true
@@ -54,9 +63,7 @@ row_list model = cond (eqb model 1) idriss.periods (0 ∷ boore_atkinson.periods
 
 -- the periods of the rows of a place, by a list of the periods of the rows; and that the list has them
 abbrev pub periods_at : List ℕ → Place → RowPeriods
-periods_at list (P.Row k) = record { lower = get_or list k 0; upper = get_or list k 0 }
-periods_at list (P.Between k) = record { lower = get_or list k 0; upper = get_or list (k + 1) 0 }
+periods_at list p = record { lower = get_or list (first_in p) 0; upper = get_or list (last_in p) 0 }
 
 abbrev pub InTable : Place → Type 0
-InTable (P.Row k) = k < row_count
-InTable (P.Between k) = k + 1 < row_count
+InTable p = last_in p < row_count

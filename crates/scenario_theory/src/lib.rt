@@ -4,6 +4,7 @@
 
 ghost use Rattle.std.specs.Prelude.{◌≡◌};
 ghost use Rattle.scenario_theory.specs.Numbers.{refusal_number};
+ghost use Rattle.scenario_theory.specs.Rows.{first_in, last_in, InTable};
 
 // In 0.01 km, to the rupture: the distance that Idriss reads.
 #[derive(Clone, Copy)]
@@ -45,6 +46,28 @@ pub struct ModelLimits {
 pub enum Place {
     Row(usize),
     Between(usize),
+}
+
+impl Place {
+    // The first and the last of its rows.
+    pub fn first(self) -> usize
+        ensures { result ≡ first_in self }
+    {
+        match self {
+            Place::Row(k) => k,
+            Place::Between(k) => k,
+        }
+    }
+
+    pub fn last(self) -> usize
+        requires { InTable self }
+        ensures { result ≡ last_in self }
+    {
+        match self {
+            Place::Row(k) => k,
+            Place::Between(k) => k + 1,
+        }
+    }
 }
 
 // What an answer rests on: the model, the distance that it reads, and the place of the period in its tables.

@@ -1,0 +1,25 @@
+use mathlib.Core.Path.{sym, subst, ◌∙◌}
+use Rattle.toolbox_theory.proofs.Results.{passed_on}
+use Rattle.engine_theory.specs.Evaluation.{record_answer_of, SmallAnswer}
+use Rattle.engine_theory.proofs.Laws.{small, enclosed_in_doubles, refused_in_doubles, doubles_answers}
+use Rattle.record_theory.proofs.ReadingLaws.{read_numbered}
+use Rattle.engine_theory.proofs.RecordLaws.{read_accepted}
+use Rattle.engine.proofs.answer_record_in_doubles.Goals as goal
+
+pub returns-in_err-e-clause-value : goal.returns-in_err-e-clause-value
+returns-in_err-e-clause-value c =
+    passed_on c.from_residual.ensures ∙ refused_in_doubles (sym c.in_err-e.was ∙ c.answer_record.ensures.value)
+
+pub as_doubles-requires : goal.as_doubles-requires
+unfolding record_answer_of
+as_doubles-requires c =
+    subst SmallAnswer (sym c.answer_record.ensures.value ∙ c.in_ok-e.was) (small _ _ (read_accepted _))
+
+pub returns-clause-value : goal.returns-clause-value
+returns-clause-value c = enclosed_in_doubles c.as_doubles.ensures (sym c.in_ok-e.was ∙ c.answer_record.ensures.value)
+
+pub returns-clause-doubles_promise : goal.returns-clause-doubles_promise
+unfolding record_answer_of
+returns-clause-doubles_promise c =
+    (doubles_answers _ _ (read_accepted _) (read_numbered _)
+    (enclosed_in_doubles c.as_doubles.ensures (sym c.in_ok-e.was ∙ c.answer_record.ensures.value))).1
