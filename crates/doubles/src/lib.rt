@@ -4,7 +4,8 @@
 ghost use Rattle.std.specs.Prelude.{◌≡◌, ◌^◌, ◌<◌, nat_abs};
 ghost use Rattle.engine_theory.specs.Evaluation.{SmallEnclosure, double_of, doubles_of};
 
-use engine_theory::{Doubles, Enclosure};
+use engine_theory::Enclosure;
+use interval_theory::Ends;
 
 // A whole number that a double holds.
 fn double(z: i64) -> f64
@@ -15,14 +16,18 @@ fn double(z: i64) -> f64
 }
 
 // The four ends of an answer, each as a double.
-pub fn as_doubles(e: Enclosure) -> Doubles
+pub fn as_doubles(e: Enclosure<i64>) -> Enclosure<f64>
     requires { SmallEnclosure e }
     ensures { result ≡ doubles_of e }
 {
-    Doubles {
-        median_low: double(e.median.low),
-        median_high: double(e.median.high),
-        sigma_low: double(e.sigma.low),
-        sigma_high: double(e.sigma.high),
+    Enclosure {
+        median: Ends {
+            low: double(e.median.low),
+            high: double(e.median.high),
+        },
+        sigma: Ends {
+            low: double(e.sigma.low),
+            high: double(e.sigma.high),
+        },
     }
 }

@@ -15,14 +15,13 @@ ghost use Rattle.engine_theory.specs.Evaluation.{idriss_median_ends, idriss_encl
 ghost use Rattle.engine_theory.specs.Evaluation.{answer_of, record_answer_of, next_of, in_doubles};
 
 use doubles::as_doubles;
-pub use engine_theory::{Answer, Doubles, DoublesAnswer, Enclosure, NextAnswer};
+pub use engine_theory::{Answer, DoublesAnswer, Enclosure, NextAnswer};
 use interpolation::interpolated;
 use interpolation_theory::TwoRows;
 use interval::ends;
 use interval_theory::Ends;
-use record_theory::BasedReading;
 use row_neighbours::{boore_atkinson_neighbours, idriss_neighbours};
-use scenario_theory::{Basis, Check, Place, ProjectionDistance, RuptureDistance, Scenario};
+use scenario_theory::{Basis, Place, ProjectionDistance, RuptureDistance, Scenario};
 
 // The first and the last of the rows of a place.
 fn first_row(place: Place) -> usize
@@ -75,7 +74,7 @@ fn by_idriss(
     mechanism: u8,
     period: u16,
     place: Place,
-) -> Enclosure
+) -> Enclosure<i64>
     requires { Placed idriss idriss_row magnitude distance.0 velocity mechanism period place }
     ensures { result ≡ idriss_enclosure_of magnitude distance.0 velocity mechanism period }
 {
@@ -105,7 +104,7 @@ fn between_boore_atkinson(
     period: u16,
     k: usize,
     rows: TwoRows,
-) -> Enclosure
+) -> Enclosure<i64>
     requires placed { Placed boore_atkinson boore_atkinson_row magnitude distance.0 velocity mechanism period
         (P.Between k) }
     requires rows_value { rows ≡ boore_atkinson_rows_of magnitude distance.0 velocity mechanism k (k + 1) }
@@ -128,7 +127,7 @@ fn at_boore_atkinson_row(
     period: u16,
     k: usize,
     rows: TwoRows,
-) -> Enclosure
+) -> Enclosure<i64>
     requires placed { Placed boore_atkinson boore_atkinson_row magnitude distance.0 velocity mechanism period
         (P.Row k) }
     requires rows_value { rows ≡ boore_atkinson_rows_of magnitude distance.0 velocity mechanism k k }
@@ -147,7 +146,7 @@ fn by_boore_atkinson(
     mechanism: u8,
     period: u16,
     place: Place,
-) -> Enclosure
+) -> Enclosure<i64>
     requires { Placed boore_atkinson boore_atkinson_row magnitude distance.0 velocity mechanism period place }
     ensures { result ≡ boore_atkinson_enclosure_of magnitude distance.0 velocity mechanism period }
 {
@@ -171,7 +170,7 @@ fn by_boore_atkinson(
 
 // By what the checks have found an answer to rest on: the model and the distance that it reads, and the place of the
 // period. The fields pass one by one, as a struct would be stored and read back.
-fn on_basis(magnitude: u16, velocity: u16, mechanism: u8, period: u16, basis: Basis) -> Enclosure
+fn on_basis(magnitude: u16, velocity: u16, mechanism: u8, period: u16, basis: Basis) -> Enclosure<i64>
     requires { PlacedOn magnitude velocity mechanism period basis }
     ensures { result ≡ enclosure_on magnitude velocity mechanism period basis }
 {
@@ -192,7 +191,7 @@ pub fn answer_fields(s: Scenario) -> Answer
 {
     let rupture = s.rupture;
     let projection = s.projection;
-    match scenario::check(
+    let basis = scenario::check(
         s.model,
         s.magnitude,
         rupture,
@@ -200,16 +199,8 @@ pub fn answer_fields(s: Scenario) -> Answer
         s.mechanism,
         s.period,
         projection,
-    ) {
-        Check::Accepted(basis) => Answer::Enclosed(on_basis(
-            s.magnitude,
-            s.velocity,
-            s.mechanism,
-            s.period,
-            basis,
-        )),
-        Check::Refused(k) => Answer::Refused(k),
-    }
+    )?;
+    Ok(on_basis(s.magnitude, s.velocity, s.mechanism, s.period, basis))
 }
 
 // Answers the record at the front of any bytes, and says how long it is.
@@ -217,13 +208,11 @@ pub fn answer_next(bytes: &[u8]) -> NextAnswer
     ensures value { result ≡ next_of bytes.now }
     ensures next_promise { NextPromise bytes.now result }
 {
-    match record_reading::read_with_basis(bytes) {
-        BasedReading::Read(s, n, basis) => NextAnswer::Enclosed(
-            on_basis(s.magnitude, s.velocity, s.mechanism, s.period, basis),
-            n,
-        ),
-        BasedReading::Refused(k) => NextAnswer::Refused(k),
-    }
+    let (s, length, basis) = record_reading::read_with_basis(bytes)?;
+    Ok((
+        on_basis(s.magnitude, s.velocity, s.mechanism, s.period, basis),
+        length,
+    ))
 }
 
 // Answers the record at the front of any bytes.
@@ -231,10 +220,8 @@ pub fn answer_record(bytes: &[u8]) -> Answer
     ensures value { result ≡ record_answer_of bytes.now }
     ensures answer_promise { AnswerPromise (read_refusal bytes.now) (scenario_in bytes.now) result }
 {
-    match answer_next(bytes) {
-        NextAnswer::Enclosed(e, _) => Answer::Enclosed(e),
-        NextAnswer::Refused(k) => Answer::Refused(k),
-    }
+    let (e, _) = answer_next(bytes)?;
+    Ok(e)
 }
 
 // Answers a scenario of any fields, in doubles that equal the whole units.
@@ -242,26 +229,8 @@ pub fn answer_fields_in_doubles(s: Scenario) -> DoublesAnswer
     ensures value { result ≡ in_doubles (answer_of s) }
     ensures doubles_promise { DoublesPromise (refusal_of s) s (answer_of s) result }
 {
-    let rupture = s.rupture;
-    let projection = s.projection;
-    match scenario::check(
-        s.model,
-        s.magnitude,
-        rupture,
-        s.velocity,
-        s.mechanism,
-        s.period,
-        projection,
-    ) {
-        Check::Accepted(basis) => DoublesAnswer::Enclosed(as_doubles(on_basis(
-            s.magnitude,
-            s.velocity,
-            s.mechanism,
-            s.period,
-            basis,
-        ))),
-        Check::Refused(k) => DoublesAnswer::Refused(k),
-    }
+    let e = answer_fields(s)?;
+    Ok(as_doubles(e))
 }
 
 // Answers the record at the front of any bytes, in doubles that equal the whole units.
@@ -270,8 +239,6 @@ pub fn answer_record_in_doubles(bytes: &[u8]) -> DoublesAnswer
     ensures doubles_promise { DoublesPromise (read_refusal bytes.now) (scenario_in bytes.now)
         (record_answer_of bytes.now) result }
 {
-    match answer_next(bytes) {
-        NextAnswer::Enclosed(e, _) => DoublesAnswer::Enclosed(as_doubles(e)),
-        NextAnswer::Refused(k) => DoublesAnswer::Refused(k),
-    }
+    let e = answer_record(bytes)?;
+    Ok(as_doubles(e))
 }

@@ -4,6 +4,7 @@ use mathlib.Core.Path.{◌≡◌, refl}
 use Prim.Native.Nat.{ℕ, ◌+◌, ◌-◌}
 use native.Mathlib.Omega.{arith}
 use borrow.Author.Tests.{lt-ltb}
+use Rattle.std.specs.Prelude.{ℤ}
 use Rattle.interval_theory.specs.Signed.{Moderate, ends_of}
 use Rattle.interval_theory.specs.declared.SignedPair.{SignedPair}
 use Rattle.interval_theory.proofs.SignedBounds.{moderate}
@@ -104,7 +105,7 @@ module _ {M R Vs mechanism T k : ℕ} where
         moderate (boore_atkinson_sized mechanism d) (omega arith)
 
     pub boore_atkinson_at_row :
-        ◌≡◌ {A = Enclosure}
+        ◌≡◌ {A = Enclosure ℤ}
         record {
           median = ends_of (boore_atkinson_rows_of M R Vs mechanism k k).upper;
           sigma = sigma_of (total_at k) mechanism;
@@ -143,7 +144,7 @@ module _ {M R Vs mechanism T k : ℕ} where
 
     pub boore_atkinson_between_rows :
         let step = step_around boore_atkinson T in
-        ◌≡◌ {A = Enclosure}
+        ◌≡◌ {A = Enclosure ℤ}
         record {
           median = interpolated_of medians.lower medians.upper step.part step.whole;
           sigma = interpolated_of sigmas.lower sigmas.upper step.part step.whole;

@@ -2,26 +2,23 @@
 use mathlib.Core.Path.{◌≡◌, refl, sym, ap, ◌∙◌}
 use mathlib.Core.List.{[], ◌∷◌}
 use mathlib.Core.Logic.{⊎_elim}
-use Prim.Native.Nat.{ℕ, zero, suc}
+use Prim.Native.Nat.{ℕ, zero, suc, ◌≤◌}
 use native.Mathlib.Omega.{arith}
+use Rattle.std.specs.Prelude.{ℤ, Float, Result, Ok, Err}
 use Rattle.scenario_theory.specs.declared.Scenario.{Scenario}
 use Rattle.scenario_theory.specs.declared.Basis.{Basis}
-use Rattle.scenario_theory.specs.declared.Check.TheVariants as K
+use Rattle.scenario_theory.specs.declared.Refusal.{Refusal}
 use Rattle.scenario_theory.specs.Refusal.{refusal_of}
 use Rattle.scenario_theory.specs.Accepted.{check_of}
 use Rattle.scenario_theory.proofs.CheckLaws.{is_refused}
 use Rattle.scenario_theory.proofs.CheckedLaws.{passed, failed}
+use Rattle.scenario_theory.proofs.NumberLaws.{numbered}
 use Rattle.scenario_theory.proofs.RefusalLaws.{of_model}
 use Rattle.idriss_theory.specs.Sigma.{clamp}
 use Rattle.idriss_theory.specs.Evaluation.{sigma_of as idriss_sigma_of}
 use Rattle.idriss_theory.proofs.SigmaLaws.{by_clamped}
 use Rattle.engine_theory.specs.declared.Enclosure.{Enclosure}
-use Rattle.engine_theory.specs.declared.Answer.{Answer}
-use Rattle.engine_theory.specs.declared.Doubles.{Doubles}
-use Rattle.engine_theory.specs.declared.DoublesAnswer.{DoublesAnswer}
-use Rattle.engine_theory.specs.declared.DoublesAnswer.TheVariants as D
-use Rattle.engine_theory.specs.declared.Answer.TheVariants as A
-use Rattle.engine_theory.specs.Promise.{AnswerPromise, sigma_values, SameSigma, DoublesPromise}
+use Rattle.engine_theory.specs.Promise.{Answer, DoublesAnswer, AnswerPromise, sigma_values, SameSigma, DoublesPromise}
 use Rattle.engine_theory.specs.Ranges.{AnswerInRange}
 use Rattle.engine_theory.specs.Evaluation.{idriss_enclosure_of, enclosure_of, answer_by, answer_of, SmallAnswer}
 use Rattle.engine_theory.specs.Evaluation.{doubles_of, in_doubles}
@@ -33,9 +30,9 @@ use Rattle.engine_theory.proofs.Assembled.{on_basis}
 module _ (s : Scenario) where
   -- ---- an answer by the number k of a check that is 0 only where the scenario is accepted
 
-  pub promised : (k : ℕ) → (k ≡ 0 → refusal_of s ≡ 0) → AnswerPromise k s (answer_by k s)
+  pub promised : (k : ℕ) → (k ≡ 0 → refusal_of s ≡ 0) → k ≤ 15 → AnswerPromise k s (answer_by k s)
   unfolding answer_by
-  promised zero accepted =
+  promised zero accepted few =
       let e = sound s (accepted refl) in
       record {
         number = refl;
@@ -50,13 +47,13 @@ module _ (s : Scenario) where
         };
         refused = λ h. absurd (h refl);
       }
-  promised (suc k) accepted =
-      record { number = refl; enclosed = λ z. absurd (omega arith); refused = λ h. refl }
+  promised (suc k) accepted few =
+      record { number = numbered (suc k) (λ z. omega arith) few; enclosed = λ z. absurd (omega arith); refused = λ h. refl }
 
   -- every answer of which a contract says `r ≡ answer_by k s` keeps the promise
-  pub answers : {r : Answer} (k : ℕ) → (k ≡ 0 → refusal_of s ≡ 0) → r ≡ answer_by k s →
+  pub answers : {r : Answer} (k : ℕ) → (k ≡ 0 → refusal_of s ≡ 0) → k ≤ 15 → r ≡ answer_by k s →
       (r ≡ answer_by k s) × AnswerPromise k s r
-  answers k accepted e = (e, rw e (promised k accepted))
+  answers k accepted few e = (e, rw e (promised k accepted few))
 
   pub small : (k : ℕ) → (k ≡ 0 → refusal_of s ≡ 0) → SmallAnswer (answer_by k s)
   unfolding answer_by
@@ -71,15 +68,15 @@ module _ (s : Scenario) where
 
   -- ---- the two cases of an answer from fields
 
-  pub fields_refused : {k : ℕ} → check_of s ≡ K.Refused k → A.Refused k ≡ answer_of s
+  pub fields_refused : {r : Refusal} → check_of s ≡ Err r → Err r ≡ answer_of s
   unfolding answer_of answer_by
-  fields_refused {k} e = let f = failed s e in rw (← f.number) (is_refused k _ (A.Refused k) f.some)
+  fields_refused e = let f = failed s e in ap Err (sym f.reason) ∙ is_refused (refusal_of s) _ _ f.some
 
-  pub fields_enclosed : {b : Basis} {e : Enclosure} → check_of s ≡ K.Accepted b →
-      e ≡ enclosure_on s.magnitude s.velocity s.mechanism s.period b → A.Enclosed e ≡ answer_of s
+  pub fields_enclosed : {b : Basis} {e : Enclosure ℤ} → check_of s ≡ Ok b →
+      e ≡ enclosure_on s.magnitude s.velocity s.mechanism s.period b → Ok e ≡ answer_of s
   unfolding answer_of answer_by
   fields_enclosed {b} c same =
-      let r = passed s c in rw r.accepted (ap A.Enclosed (same ∙ on_basis s b r.basis))
+      let r = passed s c in rw r.accepted (ap Ok (same ∙ on_basis s b r.basis))
 
 -- ---- of two answers by Idriss
 
@@ -102,22 +99,22 @@ same_sigma s t s-idriss t-idriss s-accepted t-accepted magnitude periods =
 
 -- ---- an answer in doubles
 
-pub enclosed_in_doubles : {d : Doubles} {e : Enclosure} {a : Answer} → d ≡ doubles_of e → A.Enclosed e ≡ a →
-    D.Enclosed d ≡ in_doubles a
+pub enclosed_in_doubles : {d : Enclosure Float} {e : Enclosure ℤ} {a : Answer} → d ≡ doubles_of e → Ok e ≡ a →
+    Ok d ≡ in_doubles a
 unfolding in_doubles
-enclosed_in_doubles same e = ap D.Enclosed same ∙ ap in_doubles e
+enclosed_in_doubles same e = ap Ok same ∙ ap in_doubles e
 
-pub refused_in_doubles : {k : ℕ} {a : Answer} → A.Refused k ≡ a → D.Refused k ≡ in_doubles a
+pub refused_in_doubles : {r : Refusal} {a : Answer} → Err r ≡ a → Err r ≡ in_doubles a
 unfolding in_doubles
 refused_in_doubles e = ap in_doubles e
 
 pub in_doubles_lem : {k : ℕ} {s : Scenario} (a : Answer) → SmallAnswer a → AnswerPromise k s a →
     DoublesPromise k s a (in_doubles a)
 unfolding in_doubles doubles_of
-in_doubles_lem (A.Enclosed e) h p = record { whole = p; number = refl; values = search equals }
-in_doubles_lem (A.Refused k) h p = record { whole = p; number = refl; values = tt }
+in_doubles_lem (Ok e) h p = record { whole = p; number = refl; values = search equals }
+in_doubles_lem (Err r) h p = record { whole = p; number = refl; values = tt }
 
-pub doubles_answers : {r : DoublesAnswer} (s : Scenario) (k : ℕ) → (k ≡ 0 → refusal_of s ≡ 0) →
+pub doubles_answers : {r : DoublesAnswer} (s : Scenario) (k : ℕ) → (k ≡ 0 → refusal_of s ≡ 0) → k ≤ 15 →
     r ≡ in_doubles (answer_by k s) → (r ≡ in_doubles (answer_by k s)) × DoublesPromise k s (answer_by k s) r
-doubles_answers s k accepted e =
-    (e, rw e (in_doubles_lem (answer_by k s) (small s k accepted) (promised s k accepted)))
+doubles_answers s k accepted few e =
+    (e, rw e (in_doubles_lem (answer_by k s) (small s k accepted) (promised s k accepted few)))

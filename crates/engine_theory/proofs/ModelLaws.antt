@@ -3,7 +3,7 @@ use Rattle.std.specs.Prelude.{ℤ}
 use mathlib.Core.Path.{◌≡◌, refl}
 use mathlib.Core.Bool.{Bool, true, false, false≢true, or-false, cond, ◌&&◌, ◌||◌}
 use mathlib.Core.Logic.{⊎_elim}
-use mathlib.Core.Option.{Option, none, some}
+use Rattle.std.specs.Prelude.{Option, Some, None}
 use Prim.Native.Nat.{ℕ, ◌*◌, ◌^◌, ◌≤◌}
 use native.Mathlib.Nat.{le_refl}
 use native.Mathlib.Omega.{arith}
@@ -179,7 +179,7 @@ module _ (s : Scenario) where
 -- ---- the four ends of an accepted scenario
 
 -- they enclose what the model gives, a double equals each, and the median's lie within the range
-pub record Sound (s : Scenario) (e : Enclosure) : Type 0 where
+pub record Sound (s : Scenario) (e : Enclosure ℤ) : Type 0 where
   pub median_enclosed : EnclosedWithin (median_width s) (median s) e.median.low e.median.high
   pub sigma_enclosed : EnclosedWithin (sigma_width s) (sigma s) e.sigma.low e.sigma.high
   pub small : SmallEnclosure e
@@ -187,7 +187,7 @@ pub record Sound (s : Scenario) (e : Enclosure) : Type 0 where
 
 module _ (s : Scenario) where
   -- by what the model gives and what is computed
-  sound_by : (f : Formula) (e : Enclosure) → median s ≡ f → enclosure_of s ≡ e →
+  sound_by : (f : Formula) (e : Enclosure ℤ) → median s ≡ f → enclosure_of s ≡ e →
       MedianEnds (median_width s) f e.median → SoundEnds (sigma_width s) (sigma s) e.sigma → Sound s (enclosure_of s)
   sound_by f e gives computes m g =
       rw computes (record {
@@ -221,9 +221,9 @@ module _ (s : Scenario) where
 
 -- ---- nothing encloses the median of a scenario that lacks the distance that its model reads
 
-absent : (o : Option ℕ) → is_absent o ≡ true → o ≡ none
-absent none e = refl
-absent (some x) e = absurd (false≢true e)
+absent : (o : Option ℕ) → is_absent o ≡ true → o ≡ None
+absent None e = refl
+absent (Some x) e = absurd (false≢true e)
 
 module _ (s : Scenario) where
   undefined_at : lacks_distance s ≡ true → median s ≡ undefined

@@ -1,22 +1,20 @@
 -- Answers from a record: what is read is accepted, and is answered as from fields.
-use mathlib.Core.Path.{◌≡◌, sym, ap, ◌∙◌}
+use mathlib.Core.Path.{◌≡◌, refl, sym, ap, ◌∙◌}
 use mathlib.Core.List.{List}
 use mathlib.Core.Logic.{⊎_elim}
 use Prim.Native.Nat.{ℕ}
+use native.Mathlib.Omega.{arith}
+use Rattle.std.specs.Prelude.{ℤ, Ok, Err}
 use Rattle.scenario_theory.specs.declared.Scenario.{Scenario}
+use Rattle.scenario_theory.specs.declared.Refusal.{Refusal}
 use Rattle.scenario_theory.specs.declared.Basis.{Basis}
 use Rattle.scenario_theory.specs.Refusal.{refusal_of}
 use Rattle.scenario_theory.proofs.CheckLaws.{is_refused, unless_is, of_unless}
-use Rattle.record_theory.specs.declared.Reading.TheVariants.{Read, Refused}
-use Rattle.record_theory.specs.declared.BasedReading.TheVariants as T
-use Rattle.record_theory.specs.Outcome.{scenario_in, read_refusal, read_of, rest_at}
+use Rattle.record_theory.specs.Outcome.{map_in, scenario_in, length_by, read_refusal, read_of, rest_at}
 use Rattle.record_theory.specs.Steps.{based_reading_of}
-use Rattle.record_theory.proofs.ReadingLaws.{accepted, read_as, not_read, read_of_lem, based_read}
+use Rattle.record_theory.proofs.ReadingLaws.{read_numbered, accepted, read_as, not_read, read_of_lem, based_read}
 use Rattle.engine_theory.specs.declared.Enclosure.{Enclosure}
-use Rattle.engine_theory.specs.declared.Answer.TheVariants as A
-use Rattle.engine_theory.specs.declared.NextAnswer.{NextAnswer}
-use Rattle.engine_theory.specs.declared.NextAnswer.TheVariants as N
-use Rattle.engine_theory.specs.Promise.{answer_in, length_in, NextPromise}
+use Rattle.engine_theory.specs.Promise.{NextAnswer, answer_in, length_in, NextPromise}
 use Rattle.engine_theory.specs.Evaluation.{enclosure_of, answer_by, answer_of, record_answer_of, next_of}
 use Rattle.engine_theory.specs.Steps.{enclosure_on}
 use Rattle.engine_theory.proofs.Laws.{promised}
@@ -29,8 +27,8 @@ module _ (s : List ℕ) where
 
   -- ---- the two cases of an answer with the record's length
 
-  pub next_enclosed : {x : Scenario} {n : ℕ} {b : Basis} {a : Enclosure} → based_reading_of s ≡ T.Read x n b →
-      a ≡ enclosure_on x.magnitude x.velocity x.mechanism x.period b → N.Enclosed a n ≡ next_of s
+  pub next_enclosed : {x : Scenario} {n : ℕ} {b : Basis} {a : Enclosure ℤ} → based_reading_of s ≡ Ok (x, n, b) →
+      a ≡ enclosure_on x.magnitude x.velocity x.mechanism x.period b → Ok (a, n) ≡ next_of s
   unfolding next_of
   next_enclosed {x} {n} {b} {a} e same =
       let d = based_read s e in
@@ -38,11 +36,10 @@ module _ (s : List ℕ) where
       let enclosed : a ≡ enclosure_of x = same ∙ on_basis x b d.rests.basis in
       cc
 
-  pub next_refused : {k : ℕ} → based_reading_of s ≡ T.Refused k → N.Refused k ≡ next_of s
+  pub next_refused : {r : Refusal} → based_reading_of s ≡ Err r → Err r ≡ next_of s
   unfolding next_of
-  next_refused {k} e =
-      let r = not_read s k (sym (read_of_lem s e).0) in
-      rw r.number (is_refused k _ (N.Refused k) r.some)
+  next_refused e =
+      let r = not_read s _ (sym (read_of_lem s e).0) in ap Err (sym r.reason) ∙ is_refused (read_refusal s) _ _ r.some
 
   -- the answer in it is the answer from the record, and its length that of what is read
 
@@ -61,30 +58,36 @@ module _ (s : List ℕ) where
   pub next_promised : {r : NextAnswer} → r ≡ next_of s → (r ≡ next_of s) × NextPromise s r
   unfolding record_answer_of
   next_promised e =
-      (e, rw e (record { answer = rw same_answer (promised _ _ read_accepted); length = same_length }))
+      (e, rw e (record { answer = rw same_answer (promised _ _ read_accepted (read_numbered s)); length = same_length }))
 
   -- "Answering from a record .. answers the scenario read": as answering from its fields does
-  pub record_as_fields : (x : Scenario) (n : ℕ) → read_of s ≡ Read x n → record_answer_of s ≡ answer_of x
+  pub record_as_fields : (x : Scenario) (n : ℕ) → read_of s ≡ Ok (x, n) → record_answer_of s ≡ answer_of x
   unfolding record_answer_of answer_of
   record_as_fields x n e = let r = read_as s x n e in cc
 
-  pub record_refused : (k : ℕ) → read_of s ≡ Refused k → A.Refused k ≡ record_answer_of s
+  pub record_refused : {r : Refusal} → read_of s ≡ Err r → Err r ≡ record_answer_of s
   unfolding record_answer_of answer_by
-  record_refused k e = let r = not_read s k e in rw r.number (is_refused k _ (A.Refused k) r.some)
+  record_refused e = let r = not_read s _ e in ap Err (sym r.reason) ∙ is_refused (read_refusal s) _ _ r.some
 
   -- ---- what an answer with the record's length says of the bytes
 
-  pub record NextRead (a : Enclosure) (n : ℕ) : Type 0 where
-    pub read : read_of s ≡ Read (scenario_in s) n
-    pub answer : A.Enclosed a ≡ answer_of (scenario_in s)
+  pub record NextRead (a : Enclosure ℤ) (n : ℕ) : Type 0 where
+    pub read : read_of s ≡ Ok (scenario_in s, n)
+    pub answer : Ok a ≡ answer_of (scenario_in s)
 
-  pub next_read : {a : Enclosure} {n : ℕ} → next_of s ≡ N.Enclosed a n → NextRead a n
+  pub next_read : {a : Enclosure ℤ} {n : ℕ} → next_of s ≡ Ok (a, n) → NextRead a n
   unfolding next_of read_of answer_of answer_by
-  next_read e =
-      ⊎_elim (λ p. record { read = cc; answer = cc (read_accepted p.0) }) (λ p. record { read = cc; answer = cc })
+  next_read {a} {n} e =
+      ⊎_elim
+      (λ p.
+        let both : ◌≡◌ {A = Enclosure ℤ × ℕ} (enclosure_of (scenario_in s), length_by (map_in s)) (a, n) = cc in
+        let same = ap (λ x. x.0) both in
+        let size = ap (λ x. x.1) both in
+        record { read = rw (p.0, size) refl; answer = rw (read_accepted p.0, same) refl })
+      (λ p. let z : ◌≡◌ {A = ℕ} 0 1 = cc in absurd (omega arith))
       (unless_is (read_refusal s) e)
 
-  pub next_not_read : {k : ℕ} → next_of s ≡ N.Refused k → read_of s ≡ Refused k
+  pub next_not_read : {r : Refusal} → next_of s ≡ Err r → read_of s ≡ Err r
   unfolding next_of read_of
   next_not_read e =
       ⊎_elim (λ p. cc) (λ p. cc (is_refused (read_refusal s) _ _ p.0)) (unless_is (read_refusal s) e)

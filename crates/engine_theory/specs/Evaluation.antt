@@ -1,6 +1,6 @@
 -- What the engine computes. A change of the way of computing swaps these definitions behind their names; callers go by
 -- the promises of specs/Promise, and by equal answers to equal scenarios, and never by this text.
-use Rattle.std.specs.Prelude.{cond, List, ℕ, ◌^◌, ℤ, pos, Float}
+use Rattle.std.specs.Prelude.{cond, List, ℕ, ◌^◌, ℤ, pos, Float, Ok, Err}
 use Rattle.std.specs.Float.{Format, binary64}
 use Rattle.std.specs.Float.Ieee.{of_int}
 use Rattle.interval_theory.specs.declared.Ends.{Ends}
@@ -11,6 +11,7 @@ use Rattle.scenario_theory.specs.declared.Scenario.{Scenario}
 use Rattle.scenario_theory.specs.Checks.{unless_refused}
 use Rattle.scenario_theory.specs.Distances.{given}
 use Rattle.scenario_theory.specs.Refusal.{Limits, idriss, boore_atkinson, refusal_of}
+use Rattle.scenario_theory.specs.Numbers.{with_number}
 use Rattle.scenario_theory.specs.Neighbours.{has_row, neighbour_below, neighbour_above}
 use Rattle.record_theory.specs.Outcome.{map_in, scenario_in, length_by, read_refusal}
 use Rattle.idriss_theory.specs.Tables.{Row, table_for, row_in}
@@ -22,14 +23,8 @@ use Rattle.boore_atkinson_theory.specs.Evaluation.{sigma_of as boore_atkinson_si
 use Rattle.boore_atkinson_theory.specs.Evaluation.{median_between_of as boore_atkinson_median_between_of}
 use Rattle.boore_atkinson_theory.specs.Evaluation.{sigma_between_of}
 use Rattle.engine_theory.specs.declared.Enclosure.{Enclosure}
-use Rattle.engine_theory.specs.declared.Doubles.{Doubles}
-use Rattle.engine_theory.specs.declared.Answer.{Answer}
-use Rattle.engine_theory.specs.declared.Answer.TheVariants as A
-use Rattle.engine_theory.specs.declared.NextAnswer.{NextAnswer}
-use Rattle.engine_theory.specs.declared.NextAnswer.TheVariants as N
-use Rattle.engine_theory.specs.declared.DoublesAnswer.{DoublesAnswer}
-use Rattle.engine_theory.specs.declared.DoublesAnswer.TheVariants as D
 use Rattle.engine_theory.specs.Models.{by_model}
+use Rattle.engine_theory.specs.Promise.{Answer, NextAnswer, DoublesAnswer}
 
 -- ---- in whole numbers of units
 
@@ -58,11 +53,11 @@ boore_atkinson_sigma_ends mechanism T =
     (λ t u step. sigma_between_of (total_for t) (total_for u) step mechanism)
 
 -- the four ends by each model
-unfoldable pub idriss_enclosure_of : ℕ → ℕ → ℕ → ℕ → ℕ → Enclosure
+unfoldable pub idriss_enclosure_of : ℕ → ℕ → ℕ → ℕ → ℕ → Enclosure ℤ
 idriss_enclosure_of M R Vs mechanism T =
     record { median = idriss_median_ends (table_for M) M R Vs mechanism T; sigma = idriss_sigma_of T M }
 
-unfoldable pub boore_atkinson_enclosure_of : ℕ → ℕ → ℕ → ℕ → ℕ → Enclosure
+unfoldable pub boore_atkinson_enclosure_of : ℕ → ℕ → ℕ → ℕ → ℕ → Enclosure ℤ
 boore_atkinson_enclosure_of M RJB Vs mechanism T =
     record {
       median = boore_atkinson_median_ends M RJB Vs mechanism T;
@@ -70,10 +65,10 @@ boore_atkinson_enclosure_of M RJB Vs mechanism T =
     }
 
 -- nothing is computed where the distance is absent; these ends are in no answer
-abbrev pub no_ends : Enclosure
+abbrev pub no_ends : Enclosure ℤ
 no_ends = record { median = record { low = pos 0; high = pos 0 }; sigma = record { low = pos 0; high = pos 0 } }
 
-unfoldable pub enclosure_of : Scenario → Enclosure
+unfoldable pub enclosure_of : Scenario → Enclosure ℤ
 enclosure_of s =
     by_model s
     (given (idriss.reads s)
@@ -83,7 +78,7 @@ enclosure_of s =
 
 -- where k is the number of the first check that applies
 unfoldable pub answer_by : ℕ → Scenario → Answer
-answer_by k s = unless_refused k (A.Enclosed (enclosure_of s)) (A.Refused k)
+answer_by k s = unless_refused k (Ok (enclosure_of s)) (Err (with_number k))
 
 -- from fields
 unfoldable pub answer_of : Scenario → Answer
@@ -96,19 +91,19 @@ record_answer_of bytes = answer_by (read_refusal bytes) (scenario_in bytes)
 -- and with the record's length
 unfoldable pub next_of : List ℕ → NextAnswer
 next_of bytes =
-    unless_refused (read_refusal bytes) (N.Enclosed (enclosure_of (scenario_in bytes)) (length_by (map_in bytes)))
-    (N.Refused (read_refusal bytes))
+    unless_refused (read_refusal bytes) (Ok (enclosure_of (scenario_in bytes), length_by (map_in bytes)))
+    (Err (with_number (read_refusal bytes)))
 
 -- ---- in doubles
 
 -- all ends are below 2 ^ 53 in absolute value
-pub record SmallEnclosure (e : Enclosure) : Type 0 where
+pub record SmallEnclosure (e : Enclosure ℤ) : Type 0 where
   pub median : SmallerThan (2 ^ 53) e.median
   pub sigma : SmallerThan (2 ^ 53) e.sigma
 
 abbrev pub SmallAnswer : Answer → Type 0
-SmallAnswer (A.Enclosed e) = SmallEnclosure e
-SmallAnswer (A.Refused k) = Unit {0}
+SmallAnswer (Ok e) = SmallEnclosure e
+SmallAnswer (Err r) = Unit {0}
 
 -- the format of a host's doubles
 abbrev pub host_format : Format
@@ -117,14 +112,12 @@ host_format = binary64
 abbrev pub double_of : ℤ → Float
 double_of z = of_int host_format z
 
-unfoldable pub doubles_of : Enclosure → Doubles
+unfoldable pub doubles_of : Enclosure ℤ → Enclosure Float
 doubles_of e = record {
-  median_low = double_of e.median.low;
-  median_high = double_of e.median.high;
-  sigma_low = double_of e.sigma.low;
-  sigma_high = double_of e.sigma.high;
+  median = record { low = double_of e.median.low; high = double_of e.median.high };
+  sigma = record { low = double_of e.sigma.low; high = double_of e.sigma.high };
 }
 
 unfoldable pub in_doubles : Answer → DoublesAnswer
-in_doubles (A.Enclosed e) = D.Enclosed (doubles_of e)
-in_doubles (A.Refused k) = D.Refused k
+in_doubles (Ok e) = Ok (doubles_of e)
+in_doubles (Err r) = Err r

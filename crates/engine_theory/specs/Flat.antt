@@ -1,23 +1,22 @@
 -- An answer as a plain struct, for hosts and sheets, and what is promised of it: demand 3 once more, by its number and
 -- its ends. A refused answer is its number with zeros, and an accepted one has the number 0.
-use Rattle.std.specs.Prelude.{◌≡◌, List, [], ◌∷◌, ℕ, ℤ, pos}
+use Rattle.std.specs.Prelude.{◌≡◌, List, [], ◌∷◌, ℕ, ℤ, pos, Ok, Err}
 use Rattle.scenario_theory.specs.declared.Scenario.{Scenario}
-use Rattle.engine_theory.specs.declared.Answer.{Answer}
-use Rattle.engine_theory.specs.declared.Answer.TheVariants as A
+use Rattle.scenario_theory.specs.Numbers.{refusal_number}
 use Rattle.engine_theory.specs.declared.FlatAnswer.{FlatAnswer}
-use Rattle.engine_theory.specs.Promise.{EnclosesBoth}
+use Rattle.engine_theory.specs.Promise.{Answer, EnclosesBoth}
 
 -- "An answer has four signed whole numbers of units"; "A refusal returns its number only"
 abbrev pub told : Answer → FlatAnswer
-told (A.Enclosed e) = record {
+told (Ok e) = record {
   number = 0;
   median_low = e.median.low;
   median_high = e.median.high;
   sigma_low = e.sigma.low;
   sigma_high = e.sigma.high;
 }
-told (A.Refused k) = record {
-  number = k;
+told (Err r) = record {
+  number = refusal_number r;
   median_low = pos 0;
   median_high = pos 0;
   sigma_low = pos 0;

@@ -1,31 +1,38 @@
 -- What is promised of an answer, whatever the engine computes: demand 3, from fields and from a record, in whole
 -- numbers and in doubles.
 use Rattle.std.specs.Prelude.{◌≡◌, true, false, List, [], ◌∷◌, ◌⊎◌, ℕ, suc, ◌≤◌, ℤ, pos, negsuc, ◌+ℤ◌, take, drop, ◌≤ℤ◌}
-use Rattle.std.specs.Prelude.{Float}
+use Rattle.std.specs.Prelude.{Float, Result, Ok, Err}
 use Rattle.std.specs.Float.Ieee.Exact.{HasValue}
 use Rattle.exact_theory.specs.Formula.{Formula, ends, Encloses}
 use Rattle.scenario_theory.specs.declared.Scenario.{Scenario}
+use Rattle.scenario_theory.specs.declared.Refusal.{Refusal}
 use Rattle.scenario_theory.specs.Refusal.{refusal_of}
+use Rattle.scenario_theory.specs.Numbers.{refusal_number}
 use Rattle.record_theory.specs.Outcome.{scenario_in, read_refusal, rest_at}
-use Rattle.engine_theory.specs.declared.Answer.{Answer}
-use Rattle.engine_theory.specs.declared.Answer.TheVariants as A
-use Rattle.engine_theory.specs.declared.NextAnswer.{NextAnswer}
-use Rattle.engine_theory.specs.declared.NextAnswer.TheVariants as N
-use Rattle.engine_theory.specs.declared.DoublesAnswer.{DoublesAnswer}
-use Rattle.engine_theory.specs.declared.DoublesAnswer.TheVariants as D
+use Rattle.engine_theory.specs.declared.Enclosure.{Enclosure}
 use Rattle.engine_theory.specs.Models.{median, sigma, median_width, sigma_width}
+
+-- what answering gives, in whole numbers of units, with a record's length, and in doubles; or why it is turned away
+abbrev pub Answer : Type 0
+Answer = Result (Enclosure ℤ) Refusal
+
+abbrev pub NextAnswer : Type 0
+NextAnswer = Result (Enclosure ℤ × ℕ) Refusal
+
+abbrev pub DoublesAnswer : Type 0
+DoublesAnswer = Result (Enclosure Float) Refusal
 
 -- ---- in whole numbers of units
 
 -- "this paper's number and values for each of its cases" ('What form each place needs'): 0 is no refusal
 abbrev pub answer_number : Answer → ℕ
-answer_number (A.Enclosed e) = 0
-answer_number (A.Refused k) = k
+answer_number (Ok e) = 0
+answer_number (Err r) = refusal_number r
 
 -- the ends that lines print and doubles equal: "low and high of the median, low and high of sigma"
 abbrev pub shown_ends : Answer → List ℤ
-shown_ends (A.Enclosed e) = e.median.low ∷ e.median.high ∷ e.sigma.low ∷ e.sigma.high ∷ []
-shown_ends (A.Refused k) = []
+shown_ends (Ok e) = e.median.low ∷ e.median.high ∷ e.sigma.low ∷ e.sigma.high ∷ []
+shown_ends (Err r) = []
 
 -- the values of an answer are these and no others: "An answer has four signed whole numbers of units"; "A refusal
 -- returns its number only"
@@ -72,12 +79,12 @@ SameSigma answer =
 
 -- the answer, and the length, 0 where it is refused
 abbrev pub answer_in : NextAnswer → Answer
-answer_in (N.Enclosed e n) = A.Enclosed e
-answer_in (N.Refused k) = A.Refused k
+answer_in (Ok x) = Ok x.0
+answer_in (Err r) = Err r
 
 abbrev pub length_in : NextAnswer → ℕ
-length_in (N.Enclosed e n) = n
-length_in (N.Refused k) = 0
+length_in (Ok x) = x.1
+length_in (Err r) = 0
 
 pub record NextPromise (bytes : List ℕ) (r : NextAnswer) : Type 0 where
   pub answer : AnswerPromise (read_refusal bytes) (scenario_in bytes) (answer_in r)
@@ -87,12 +94,12 @@ pub record NextPromise (bytes : List ℕ) (r : NextAnswer) : Type 0 where
 
 -- the number and the values of each case, as of an answer
 abbrev pub doubles_number : DoublesAnswer → ℕ
-doubles_number (D.Enclosed d) = 0
-doubles_number (D.Refused k) = k
+doubles_number (Ok d) = 0
+doubles_number (Err r) = refusal_number r
 
 abbrev pub doubles_values : DoublesAnswer → List Float
-doubles_values (D.Enclosed d) = d.median_low ∷ d.median_high ∷ d.sigma_low ∷ d.sigma_high ∷ []
-doubles_values (D.Refused k) = []
+doubles_values (Ok d) = d.median.low ∷ d.median.high ∷ d.sigma.low ∷ d.sigma.high ∷ []
+doubles_values (Err r) = []
 
 -- x is finite, has the sign of z and its absolute value: "doubles that equal the whole numbers, nothing rounded"
 abbrev pub Equals : Float → ℤ → Type 0

@@ -1,9 +1,8 @@
 -- Where the ends of a median lie, in units of 10^-9. W-203's millionths of g rest on it.
-use Rattle.std.specs.Prelude.{ℕ, pos, ◌≤ℤ◌, ℤ}
+use Rattle.std.specs.Prelude.{ℕ, pos, ◌≤ℤ◌, ℤ, Ok, Err}
 use Rattle.interval_theory.specs.declared.Ends.{Ends}
 use Rattle.interval_theory.specs.Bound.{Reaches}
-use Rattle.engine_theory.specs.declared.Answer.{Answer}
-use Rattle.engine_theory.specs.declared.Answer.TheVariants as A
+use Rattle.engine_theory.specs.Promise.{Answer}
 
 -- from −18.1 to 2.1, by a row and between rows; in truth from −13.97 to 1.13
 abbrev pub median_least : ℕ
@@ -19,5 +18,5 @@ pub record InRange (e : Ends ℤ) : Type 0 where
   pub reaches : Reaches median_least median_most e
 
 abbrev pub AnswerInRange : Answer → Type 0
-AnswerInRange (A.Enclosed e) = InRange e.median
-AnswerInRange (A.Refused k) = Unit {0}
+AnswerInRange (Ok e) = InRange e.median
+AnswerInRange (Err r) = Unit {0}

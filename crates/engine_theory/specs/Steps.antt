@@ -1,5 +1,5 @@
 -- What private functions of the engine ask of each other; no promise to callers rests on reading it.
-use Rattle.std.specs.Prelude.{ℕ, ◌+◌}
+use Rattle.std.specs.Prelude.{ℕ, ◌+◌, ℤ}
 use Rattle.interpolation_theory.specs.declared.Step.{Step}
 use Rattle.interpolation_theory.specs.declared.TwoRows.{TwoRows}
 use Rattle.interpolation_theory.specs.Evaluation.{two_rows_of}
@@ -19,7 +19,7 @@ use Rattle.engine_theory.specs.declared.Enclosure.{Enclosure}
 use Rattle.engine_theory.specs.Evaluation.{idriss_enclosure_of, boore_atkinson_enclosure_of}
 
 -- the four ends by what an answer rests on, from magnitude, velocity, mechanism and period
-abbrev pub enclosure_on : ℕ → ℕ → ℕ → ℕ → Basis → Enclosure
+abbrev pub enclosure_on : ℕ → ℕ → ℕ → ℕ → Basis → Enclosure ℤ
 enclosure_on M Vs mechanism T (B.Idriss d p) = idriss_enclosure_of M d.0 Vs mechanism T
 enclosure_on M Vs mechanism T (B.BooreAtkinson d p) = boore_atkinson_enclosure_of M d.0 Vs mechanism T
 

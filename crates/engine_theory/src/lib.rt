@@ -2,29 +2,25 @@
 #![tactic(auto)]
 
 use interval_theory::Ends;
+use scenario_theory::Refusal;
 
 // The ends of the median and those of sigma.
 #[derive(Clone, Copy)]
-pub struct Enclosure {
-    pub median: Ends<i64>,
-    pub sigma: Ends<i64>,
+pub struct Enclosure<T> {
+    pub median: Ends<T>,
+    pub sigma: Ends<T>,
 }
 
-// What answering gives: four ends, or the number with which it is turned away.
-#[derive(Clone, Copy)]
-pub enum Answer {
-    Enclosed(Enclosure),
-    Refused(u8),
-}
+// What answering gives: four ends, natural logarithms in units of 10^-9, or why the scenario is turned away.
+pub type Answer = Result<Enclosure<i64>, Refusal>;
 
 // An answer to the record at the front of some bytes, with the record's length.
-#[derive(Clone, Copy)]
-pub enum NextAnswer {
-    Enclosed(Enclosure, usize),
-    Refused(u8),
-}
+pub type NextAnswer = Result<(Enclosure<i64>, usize), Refusal>;
 
-// An answer: number 0 and the low and high ends of the median and of sigma, natural logarithms in units of 10^-9; or
+// What answering in doubles gives: each of the four equals its whole number.
+pub type DoublesAnswer = Result<Enclosure<f64>, Refusal>;
+
+// An answer as C has it: number 0 and the low and high ends of the median and of sigma, natural logarithms in units of 10^-9; or
 // the number of the refusal, and zeros for the ends.
 #[repr(C)]
 #[derive(Clone, Copy)]
@@ -34,20 +30,4 @@ pub struct FlatAnswer {
     pub median_high: i64,
     pub sigma_low: i64,
     pub sigma_high: i64,
-}
-
-// The four ends as doubles.
-#[derive(Clone, Copy)]
-pub struct Doubles {
-    pub median_low: f64,
-    pub median_high: f64,
-    pub sigma_low: f64,
-    pub sigma_high: f64,
-}
-
-// What answering in doubles gives.
-#[derive(Clone, Copy)]
-pub enum DoublesAnswer {
-    Enclosed(Doubles),
-    Refused(u8),
 }

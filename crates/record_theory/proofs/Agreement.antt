@@ -3,7 +3,7 @@
 use mathlib.Core.Path.{◌≡◌, refl, sym, ◌∙◌}
 use mathlib.Core.Bool.{Bool, true, false, not, cond, and-not_self}
 use mathlib.Core.List.{List, [], ◌∷◌}
-use mathlib.Core.Option.{Option, none, some}
+use Rattle.std.specs.Prelude.{Option, Some, None}
 use Prim.Native.Nat.{ℕ, suc, ◌+◌, ◌*◌, ◌/◌, ◌%◌, ◌^◌, ◌≤◌, ◌<◌}
 use native.Mathlib.Nat.{mul-zero, pow-suc, two-pow-succ, div-div-eq-div-mul}
 use native.Mathlib.Omega.{arith}
@@ -22,8 +22,8 @@ Agree [] m x = Unit {0}
 Agree (f ∷ fs) m x = (stands f.bit m ≡ not (is_absent (f.written x))) × Agree fs m x
 
 part_length : (w : ℕ) (o : Option ℕ) → cond (not (is_absent o)) w 0 ≡ length (part_of w o)
-part_length w none = refl
-part_length w (some n) = sym (bytes_length w n)
+part_length w None = refl
+part_length w (Some n) = sym (bytes_length w n)
 
 -- the map as long as the record
 pub size_agrees : (fs : List Field) (m : ℕ) (x : Scenario) → Agree fs m x → size_of fs m ≡ length (parts_of fs x)

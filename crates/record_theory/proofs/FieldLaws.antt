@@ -2,7 +2,7 @@
 use mathlib.Core.Path.{◌≡◌, refl, ap, ◌∙◌}
 use mathlib.Core.Bool.{Bool, true, false, not, cond, ◌&&◌, ◌||◌, or-false, and-not_self}
 use mathlib.Core.List.{List, [], ◌∷◌}
-use mathlib.Core.Option.{Option, none, some}
+use Rattle.std.specs.Prelude.{Option, Some, None}
 use Prim.Native.Nat.{ℕ, ◌+◌, ◌*◌}
 use native.Mathlib.Nat.{add-zero}
 use native.Mathlib.Omega.{arith}
@@ -44,7 +44,7 @@ number_at width at s = number_of (take width (drop at s))
 abbrev numbers_at : List Field → ℕ → ℕ → List ℕ → List (Option ℕ)
 numbers_at [] m at s = []
 numbers_at (f ∷ fs) m at s =
-    cond (stands f.bit m) (some (number_at f.width at s)) none ∷
+    cond (stands f.bit m) (Some (number_at f.width at s)) None ∷
     numbers_at fs m (at + cond (stands f.bit m) f.width 0) s
 
 numbers_at_lem : (fs : List Field) (m at : ℕ) (s : List ℕ) → numbers_of fs m (drop at s) ≡ numbers_at fs m at s
@@ -59,11 +59,11 @@ pub scenario_is : (s : List ℕ) → map_refusal (map_in s) ≡ 0 →
     record {
       model = number_at 1 1 s;
       magnitude = number_at 2 2 s;
-      rupture = rupture_of (cond (stands 2 (map_in s)) (some (number_at 2 4 s)) none);
+      rupture = rupture_of (cond (stands 2 (map_in s)) (Some (number_at 2 4 s)) None);
       velocity = cond (stands 3 (map_in s)) (number_at 2 (velocity_at (map_in s)) s) absent_velocity;
       mechanism = cond (stands 4 (map_in s)) (number_at 1 (mechanism_at (map_in s)) s) absent_mechanism;
       period = cond (stands 5 (map_in s)) (number_at 2 (period_at (map_in s)) s) absent_period;
-      projection = projection_of (cond (stands 6 (map_in s)) (some (number_at 2 (projection_at (map_in s)) s)) none);
+      projection = projection_of (cond (stands 6 (map_in s)) (Some (number_at 2 (projection_at (map_in s)) s)) None);
     }
 unfolding scenario_in
 scenario_is s e =
@@ -71,7 +71,7 @@ scenario_is s e =
     rw (numbers_at_lem layout (map_in s) 1 s) (simp (p.model, p.magnitude, bit_or) refl)
 
 -- the distances that are read stand where the map says so
-stands_by : (b : Bool) (x : ℕ) → b ≡ not (is_absent (cond b (some x) none))
+stands_by : (b : Bool) (x : ℕ) → b ≡ not (is_absent (cond b (Some x) None))
 stands_by true x = refl
 stands_by false x = refl
 

@@ -1,12 +1,14 @@
 -- The checks of the map byte. What holds of every byte is one test that antt computes over all 256.
 use mathlib.Core.Path.{◌≡◌, ◌∙◌}
 use mathlib.Core.Bool.{true, not, and-eq-true_iff, ◌&&◌}
-use Prim.Native.Nat.{ℕ, ◌%◌, ◌<◌}
+use Prim.Native.Nat.{ℕ, ◌%◌, ◌<◌, ◌≤◌}
+use native.Mathlib.Omega.{arith}
 use borrow.Author.Tests.{leb-false, not-false}
 use lib.Dec.{T, eqb, leb, eqb→eq}
 use Rattle.toolbox_theory.proofs.Tests.{all_below, below}
 use Rattle.scenario_theory.specs.Checks.{◌when◌, ◌otherwise◌}
 use Rattle.scenario_theory.proofs.CheckLaws.{none_of, not_when}
+use Rattle.scenario_theory.proofs.NumberLaws.{number_when, number_otherwise}
 use Rattle.record_theory.specs.Layout.{stands}
 use Rattle.record_theory.specs.Outcome.{map_refusal}
 
@@ -20,6 +22,14 @@ all_checked = tt
 
 pub map_checked : (m : ℕ) → m < 256 → checked m ≡ map_refusal m
 map_checked m h = eqb→eq (checked m) (map_refusal m) (below 256 (λ m. eqb (checked m) (map_refusal m)) all_checked m h)
+
+-- the number is one of document 01's
+pub map_numbered : (m : ℕ) → map_refusal m ≤ 15
+unfolding map_refusal
+map_numbered m =
+    number_otherwise _ _ (number_when 8 (stands 7 m) (omega arith))
+    (number_otherwise _ _ (number_when 9 (not (stands 0 m && stands 1 m)) (omega arith))
+    (number_when 10 (eqb m 0) (omega arith)))
 
 -- ---- a map that passes: the bits of the fields that always stand do, and it is below 128
 

@@ -2,7 +2,7 @@
 use mathlib.Core.Path.{◌≡◌, refl, ap, ◌∙◌}
 use mathlib.Core.Bool.{not, cond}
 use mathlib.Core.List.{List, [], ◌∷◌, ◌++◌, map, append_assoc}
-use mathlib.Core.Option.{Option, none, some}
+use Rattle.std.specs.Prelude.{Option, Some, None, Ok}
 use Prim.Native.Nat.{ℕ, zero, suc, ◌≤◌}
 use native.Mathlib.Omega.{arith}
 use borrow.Author.Rules.{rules}
@@ -13,7 +13,6 @@ use Rattle.scenario_theory.specs.declared.Scenario.{Scenario}
 use Rattle.scenario_theory.specs.Distances.{is_absent}
 use Rattle.scenario_theory.specs.Refusal.{refusal_of}
 use Rattle.scenario_theory.proofs.DistanceLaws.{rupture_of_lem, projection_of_lem}
-use Rattle.record_theory.specs.declared.Reading.TheVariants.{Read}
 use Rattle.record_theory.specs.Layout.{Field, layout, number_of, numbers_of, bytes_of, map_of, part_of}
 use Rattle.record_theory.specs.Layout.{parts_of, record_of}
 use Rattle.record_theory.specs.Outcome.{map_in, scenario_in, length_by, read_refusal, read_of, rest_of}
@@ -47,11 +46,11 @@ numbers_back (f ∷ fs) m x s h w =
     (go f.width (f.written x) (parts_of fs x ++ s) w.0 (numbers_back fs m x s h.1 w.1))
   where
     go : (w : ℕ) (o : Option ℕ) (more : List ℕ) → 1 ≤ w → numbers_of fs m more ≡ map (λ g. g.written x) fs →
-        cond (not (is_absent o)) (some (number_of (take w (part_of w o ++ more)))) none ∷
+        cond (not (is_absent o)) (Some (number_of (take w (part_of w o ++ more)))) None ∷
         numbers_of fs m (drop (cond (not (is_absent o)) w 0) (part_of w o ++ more)) ≡
         o ∷ map (λ g. g.written x) fs
-    go w none more l ih = rw ih
-    go w (some n) more l ih = rw (number_front w n more l, drop_at (bytes_of w n) more w (bytes_length w n), ih)
+    go w None more l ih = rw ih
+    go w (Some n) more l ih = rw (number_front w n more l, drop_at (bytes_of w n) more w (bytes_length w n), ih)
 
 -- ---- the record
 
@@ -82,13 +81,9 @@ module _ (x : Scenario) (s : List ℕ) (e : refusal_of x ≡ 0) where
       let apart = apart_agrees layout (map_of layout x) x (written_agrees x) in
       simp (map_back, scenario_back, some, written_passes x, fits, apart, e)
 
-  pub read_written : read_of (record_of x ++ s) ≡ Read x (length (record_of x))
+  pub read_written : read_of (record_of x ++ s) ≡ Ok (x, length (record_of x))
   unfolding read_of
-  read_written =
-      let b = record_of x ++ s in
-      let same : Read (scenario_in b) (length_by (map_in b)) ≡ Read x (length (record_of x)) =
-      rw (scenario_back, map_back, length_back x) in
-      rw passes_back same
+  read_written = rw passes_back (rw (scenario_back, map_back, length_back x) refl)
 
   pub rest_written : rest_of (record_of x ++ s) ≡ s
   unfolding rest_of

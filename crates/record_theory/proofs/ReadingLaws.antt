@@ -2,29 +2,51 @@
 use mathlib.Core.Path.{◌≡◌, refl, sym, ap, subst, ◌∙◌}
 use mathlib.Core.Bool.{true, false}
 use mathlib.Core.List.{List, []}
-use Prim.Native.Nat.{ℕ, zero, suc}
+use Prim.Native.Nat.{ℕ, zero, suc, ◌≤◌}
 use native.Mathlib.Omega.{arith}
 use borrow.Author.Tests.{ltb-false}
 use lib.Dec.{eqb}
 use lib.ListN.{length, drop}
+use Rattle.std.specs.Prelude.{Result, Ok, Err, ltb}
 use Rattle.scenario_theory.specs.declared.Scenario.{Scenario}
-use Rattle.scenario_theory.specs.declared.Check.{Check}
-use Rattle.scenario_theory.specs.declared.Check.TheVariants as K
+use Rattle.scenario_theory.specs.declared.Basis.{Basis}
+use Rattle.scenario_theory.specs.declared.Refusal.{Refusal}
+use Rattle.scenario_theory.specs.declared.Refusal.TheVariants as E
 use Rattle.scenario_theory.specs.Checks.{◌when◌, ◌otherwise◌, unless_refused}
 use Rattle.scenario_theory.specs.Refusal.{refusal_of}
+use Rattle.scenario_theory.specs.Numbers.{refusal_number, with_number}
 use Rattle.scenario_theory.specs.Accepted.{basis_of, check_of, RestsOn}
 use Rattle.scenario_theory.proofs.CheckLaws.{is_first, first_of_three, none_of, not_when}
 use Rattle.scenario_theory.proofs.CheckLaws.{is_refused, by_number, of_unless}
 use Rattle.scenario_theory.proofs.CheckedLaws.{based}
-use Rattle.scenario_theory.specs.declared.Basis.{Basis}
-use Rattle.record_theory.specs.declared.BasedReading.{BasedReading}
-use Rattle.record_theory.specs.declared.BasedReading.TheVariants as T
-use Rattle.record_theory.specs.declared.Reading.TheVariants.{Read, Refused}
+use Rattle.scenario_theory.proofs.NumberLaws.{numbered, number_when, number_otherwise, refusal_numbered}
 use Rattle.record_theory.specs.Layout.{layout, absent_written}
 use Rattle.record_theory.specs.Outcome.{map_in, scenario_in, length_by, map_refusal, read_refusal, read_of, rest_at}
 use Rattle.record_theory.specs.Outcome.{rest_of, reading_number, reading_values, ReadPromise}
-use Rattle.record_theory.specs.Steps.{front_refusal, field_refusal, field_check, based_reading}
-use Rattle.record_theory.specs.Steps.{based_reading_of, reading_in, Complete}
+use Rattle.record_theory.specs.Steps.{check_with, front_refusal, field_refusal, field_check, BasedReading}
+use Rattle.record_theory.specs.Steps.{based_reading, based_reading_of, reading_in, Complete}
+use Rattle.record_theory.proofs.MapLaws.{map_numbered}
+
+-- ---- a check of a program answers by its number
+
+pub passes : (k : ℕ) → check_with k ≡ Ok tt → k ≡ 0
+passes zero e = refl
+passes (suc k) e = let z : ◌≡◌ {A = ℕ} 0 1 = cc in absurd (omega arith)
+
+pub fails : (k : ℕ) {e : Refusal} → check_with k ≡ Err e → (k ≡ 0 → ⊥) × (with_number k ≡ e)
+fails zero q = let z : ◌≡◌ {A = ℕ} 0 1 = cc in absurd (omega arith)
+fails (suc k) q = (λ z. absurd (omega arith), cc)
+
+-- ---- the number of reading is one of document 01's
+
+pub read_numbered : (s : List ℕ) → read_refusal s ≤ 15
+unfolding read_refusal
+read_numbered s =
+    number_otherwise _ _ (number_when 7 (eqb (length s) 0) (omega arith))
+    (number_otherwise _ _ (map_numbered (map_in s))
+    (number_otherwise _ _ (number_when 7 (ltb (length s) (length_by (map_in s))) (omega arith))
+    (number_otherwise _ _ (number_when 11 (absent_written layout (map_in s) (scenario_in s)) (omega arith))
+    (refusal_numbered (scenario_in s)))))
 
 -- ---- the checks in two parts, as the program makes them
 
@@ -54,23 +76,26 @@ accepted s e =
 
 -- the checks of the fields: a number that is written out, and then those of the scenario
 module _ (m : ℕ) (x : Scenario) where
-  pub written_out : absent_written layout m x ≡ true → K.Refused 11 ≡ field_check m x
+  pub written_out : absent_written layout m x ≡ true → Err E.DefaultWritten ≡ field_check m x
   unfolding field_check field_refusal
   written_out e = rw e refl
 
-  pub not_written_out : {c : Check} → absent_written layout m x ≡ false → c ≡ check_of x → c ≡ field_check m x
+  pub not_written_out : {c : Result Basis Refusal} → absent_written layout m x ≡ false → c ≡ check_of x →
+      c ≡ field_check m x
   unfolding field_check field_refusal check_of
   not_written_out e h = rw e h
 
 -- ---- the answers of reading with what an answer rests on
 
 module _ (s : List ℕ) where
-  refused : (k : ℕ) → k ≡ read_refusal s → (k ≡ 0 → ⊥) → T.Refused k ≡ based_reading_of s
+  refused : (k : ℕ) → k ≡ read_refusal s → (k ≡ 0 → ⊥) → Err (with_number k) ≡ based_reading_of s
   unfolding based_reading_of
-  refused k e h = rw (← e) (is_refused k _ (T.Refused k) h)
+  refused k e h = rw (← e) (is_refused k _ (Err (with_number k)) h)
 
-  pub refused_front : (k : ℕ) → k ≡ front_refusal s → (k ≡ 0 → ⊥) → T.Refused k ≡ based_reading_of s
-  refused_front k e h = refused k (e ∙ (is_first (front_refusal s) _ (λ z. h (e ∙ z)) ∙ in_two s)) h
+  pub refused_front : {e : Refusal} → check_with (front_refusal s) ≡ Err e → Err e ≡ based_reading_of s
+  refused_front q =
+      let f = fails (front_refusal s) q in
+      ap Err (sym f.1) ∙ refused (front_refusal s) (is_first (front_refusal s) _ f.0 ∙ in_two s) f.0
 
   module _ (front : front_refusal s ≡ 0) where
     numbers : field_refusal (map_in s) (scenario_in s) ≡ read_refusal s
@@ -83,12 +108,11 @@ module _ (s : List ℕ) where
         let x = scenario_in s in
         rw (← numbers) (of_unless (based_reading x (length_by (map_in s))) (field_refusal (map_in s) x) (basis_of x) _)
 
-    pub refused_fields : {k : ℕ} → field_check (map_in s) (scenario_in s) ≡ K.Refused k →
-        T.Refused k ≡ based_reading_of s
+    pub refused_fields : {e : Refusal} → field_check (map_in s) (scenario_in s) ≡ Err e → Err e ≡ based_reading_of s
     refused_fields e = rw e at fields
 
-    pub is_read : {b : Basis} → field_check (map_in s) (scenario_in s) ≡ K.Accepted b →
-        T.Read (scenario_in s) (length_by (map_in s)) b ≡ based_reading_of s
+    pub is_read : {b : Basis} → field_check (map_in s) (scenario_in s) ≡ Ok b →
+        Ok (scenario_in s, length_by (map_in s), b) ≡ based_reading_of s
     is_read e = rw e at fields
 
   -- ---- the contract of reading: that left out
@@ -99,15 +123,17 @@ module _ (s : List ℕ) where
     where
       go : (k : ℕ) → read_refusal s ≡ k →
           reading_in (unless_refused k (based_reading (scenario_in s) (length_by (map_in s)) (basis_of (scenario_in s)))
-          (T.Refused k)) ≡
-          unless_refused k (Read (scenario_in s) (length_by (map_in s))) (Refused k)
+          (Err (with_number k))) ≡
+          unless_refused k (Ok (scenario_in s, length_by (map_in s))) (Err (with_number k))
       go zero e = rw (based (scenario_in s) (accepted s e).taken).is refl
       go (suc k) e = refl
 
   read_promise : ReadPromise s (read_of s)
   unfolding read_of
   read_promise = record {
-    number = by_number (λ r. reading_number r ≡ read_refusal s) (read_refusal s) sym (λ n. refl);
+    number =
+        by_number (λ r. reading_number r ≡ read_refusal s) (read_refusal s) sym
+        (λ n. numbered (read_refusal s) n (read_numbered s));
     values = of_unless reading_values (read_refusal s) _ _;
   }
 
@@ -116,6 +142,9 @@ module _ (s : List ℕ) where
   read_of_lem e = let f = ap reading_in (sym e) ∙ forgotten in (f, rw f read_promise)
 
 -- ---- what an answer says
+
+ok_is : {A : Type 0} {x y : A} → ◌≡◌ {A = Result A Refusal} (Ok x) (Ok y) → x ≡ y
+ok_is e = cc
 
 -- s is read as x, a record of n bytes
 pub record ReadAs (s : List ℕ) (x : Scenario) (n : ℕ) : Type 0 where
@@ -126,15 +155,17 @@ pub record ReadAs (s : List ℕ) (x : Scenario) (n : ℕ) : Type 0 where
   pub place : rest_at s ≡ n
   pub rest : rest_of s ≡ drop n s
 
-pub read_as : (s : List ℕ) (x : Scenario) (n : ℕ) → read_of s ≡ Read x n → ReadAs s x n
+pub read_as : (s : List ℕ) (x : Scenario) (n : ℕ) → read_of s ≡ Ok (x, n) → ReadAs s x n
 unfolding read_of rest_at rest_of
 read_as s x n e =
-    by_number (λ r. r ≡ Read x n → ReadAs s x n) (read_refusal s)
-    (λ p q. let size : length_by (map_in s) ≡ n = cc in
+    by_number (λ r. r ≡ Ok (x, n) → ReadAs s x n) (read_refusal s)
+    (λ p q.
+    let same = ok_is q in
+    let size = ap (λ r. r.1) same in
     record {
       number = p;
       passes = accepted s p;
-      scenario = cc;
+      scenario = ap (λ r. r.0) same;
       size = size;
       place = rw (p, size) refl;
       rest = rw (p, size) refl;
@@ -142,40 +173,41 @@ read_as s x n e =
     (λ p q. let z : ◌≡◌ {A = ℕ} 0 1 = cc in absurd (omega arith)) e
 
 -- s is refused with k, which is not 0
-pub record NotRead (s : List ℕ) (k : ℕ) : Type 0 where
-  pub number : read_refusal s ≡ k
-  pub some : k ≡ 0 → ⊥
+pub record NotRead (s : List ℕ) (e : Refusal) : Type 0 where
+  pub number : read_refusal s ≡ refusal_number e
+  pub reason : with_number (read_refusal s) ≡ e
+  pub some : read_refusal s ≡ 0 → ⊥
   pub place : rest_at s ≡ 0
   pub rest : rest_of s ≡ []
 
-pub not_read : (s : List ℕ) (k : ℕ) → read_of s ≡ Refused k → NotRead s k
+pub not_read : (s : List ℕ) (e : Refusal) → read_of s ≡ Err e → NotRead s e
 unfolding read_of rest_at rest_of
-not_read s k e =
-    by_number (λ r. r ≡ Refused k → NotRead s k) (read_refusal s)
+not_read s e =
+    by_number (λ r. r ≡ Err e → NotRead s e) (read_refusal s)
     (λ p q. let z : ◌≡◌ {A = ℕ} 0 1 = cc in absurd (omega arith))
-    (λ p q. let same : read_refusal s ≡ k = cc in
+    (λ p q. let same : with_number (read_refusal s) ≡ e = cc in
     record {
-      number = same;
-      some = λ z. p (same ∙ z);
+      number = sym (numbered (read_refusal s) p (read_numbered s)) ∙ ap refusal_number same;
+      reason = same;
+      some = p;
       place = sym (is_refused (read_refusal s) _ _ p);
       rest = sym (is_refused (read_refusal s) _ _ p);
-    }) e
+    })
 
 -- ---- what reading with what an answer rests on says
 
 pub record BasedRead (s : List ℕ) (x : Scenario) (n : ℕ) (b : Basis) : Type 0 where
-  pub read : read_of s ≡ Read x n
+  pub read : read_of s ≡ Ok (x, n)
   pub rests : RestsOn x b
 
-pub based_read : (s : List ℕ) {x : Scenario} {n : ℕ} {b : Basis} → based_reading_of s ≡ T.Read x n b → BasedRead s x n b
+pub based_read : (s : List ℕ) {x : Scenario} {n : ℕ} {b : Basis} → based_reading_of s ≡ Ok (x, n, b) →
+    BasedRead s x n b
 unfolding based_reading_of
 based_read s {x} {n} {b} e =
-    let rests = by_number (λ r. r ≡ T.Read x n b → RestsOn x b) (read_refusal s)
+    let rests = by_number (λ r. r ≡ Ok (x, n, b) → RestsOn x b) (read_refusal s)
     (λ p q.
     let d = based (scenario_in s) (accepted s p).taken in
-    let is = d.is in
-    let same : scenario_in s ≡ x = cc in
-    let basis : d.rests ≡ b = cc in
-    subst (λ y. RestsOn y b) same (subst (RestsOn (scenario_in s)) basis d.known))
+    let same = ok_is (rw d.is at q) in
+    subst (λ y. RestsOn y b) (ap (λ r. r.0) same) (subst (RestsOn (scenario_in s)) (ap (λ r. r.2) same) d.known))
     (λ p q. let z : ◌≡◌ {A = ℕ} 0 1 = cc in absurd (omega arith)) e in
     record { read = sym (read_of_lem s e).0; rests = rests }

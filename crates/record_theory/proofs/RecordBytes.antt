@@ -1,7 +1,7 @@
 -- The record of an accepted scenario is a list of bytes: its numbers fit the fields.
 use mathlib.Core.Path.{◌≡◌}
 use mathlib.Core.List.{List, [], ◌∷◌}
-use mathlib.Core.Option.{Option, none, some}
+use Rattle.std.specs.Prelude.{Option, Some, None}
 use Prim.Native.Nat.{ℕ, ◌^◌}
 use native.Mathlib.Omega.{arith}
 use Rattle.scenario_theory.specs.declared.Scenario.{Scenario}
@@ -19,8 +19,8 @@ Fit [] x = Unit {0}
 Fit (f ∷ fs) x = Below (256 ^ f.width) (f.written x) × Fit fs x
 
 part_bytes : (w : ℕ) (o : Option ℕ) → Below (256 ^ w) o → Bytes (part_of w o)
-part_bytes w none h = bytes_none
-part_bytes w (some n) h = bytes_fit w n h
+part_bytes w None h = bytes_none
+part_bytes w (Some n) h = bytes_fit w n h
 
 parts_bytes : (fs : List Field) (x : Scenario) → Fit fs x → Bytes (parts_of fs x)
 unfolding parts_of

@@ -2,7 +2,7 @@
 use mathlib.Core.Path.{◌≡◌, refl, sym}
 use mathlib.Core.Bool.{Bool, true, false, not, cond, ◌&&◌, ◌||◌}
 use mathlib.Core.List.{List, [], ◌∷◌, map}
-use mathlib.Core.Option.{Option, none, some}
+use Rattle.std.specs.Prelude.{Option, Some, None}
 use Prim.Native.Nat.{ℕ, ◌+◌, ◌≤◌, ◌<◌}
 use native.Mathlib.Omega.{arith}
 use lib.ListN.{length, take, drop, length-drop}
@@ -24,7 +24,7 @@ use Rattle.record_theory.proofs.Agreement.{Agree, map_agrees}
 
 -- what is read of a distance is not absent where its bit stands, so others follow it
 distance_left : (b : Bool) (x : ℕ) (others : Bool) →
-    ((is_absent (cond b (some x) none) && b) || others) ≡ false → others ≡ false
+    ((is_absent (cond b (Some x) None) && b) || others) ≡ false → others ≡ false
 distance_left true x others e = e
 distance_left false x others e = e
 
@@ -42,7 +42,7 @@ written_read m s e a =
     rw (velocity.0, mechanism.0, period.0, p.model, p.magnitude, rupture_number_lem, projection_number_lem) refl
 
 -- a field that was read: its bit agrees, and it is written as the bytes that it was read from
-kept : (w : ℕ) (o : Option ℕ) (b : Bool) (s : List ℕ) → o ≡ cond b (some (number_of (take w s))) none → Bytes s →
+kept : (w : ℕ) (o : Option ℕ) (b : Bool) (s : List ℕ) → o ≡ cond b (Some (number_of (take w s))) None → Bytes s →
     cond b w 0 ≤ length s → (b ≡ not (is_absent o)) × (part_of w o ≡ take (cond b w 0) s)
 kept w o true s e h l = (rw e refl, rw e (bytes_back w s h l))
 kept w o false s e h l = (rw e refl, rw e refl)

@@ -1,21 +1,20 @@
 -- The record of a scenario: a map byte, then the fields whose bits stand.
 -- Document 01, 'Records and doubles', unless another place is named; document 02, W-202, for the distances.
 use Rattle.std.specs.Prelude.{Bool, false, cond, ◌&&◌, ◌||◌, List, [], ◌∷◌, ◌++◌, ℕ, zero, suc, ◌+◌, ◌*◌, ◌/◌, ◌%◌, ◌^◌}
-use Rattle.std.specs.Prelude.{◌<◌, eqb, get_or, take, drop}
-use Rattle.std.proofs.Math.Option.{Option, none, some}
+use Rattle.std.specs.Prelude.{◌<◌, eqb, get_or, take, drop, Option, Some, None}
 use Rattle.scenario_theory.specs.declared.Scenario.{Scenario}
 use Rattle.scenario_theory.specs.Distances.{rupture_number, rupture_of, projection_number, projection_of, is_absent}
 
 infix 40 ◌unless◌
 -- a number that is left out where it is d: "a field with that number is never written"
 abbrev pub ◌unless◌ : ℕ → ℕ → Option ℕ
-x unless d = cond (eqb x d) none (some x)
+x unless d = cond (eqb x d) None (Some x)
 
 infix 40 ◌or◌
 -- the number that a record has of a field, d where the field is left out
 abbrev pub ◌or◌ : Option ℕ → ℕ → ℕ
-none or d = d
-(some x) or d = x
+None or d = d
+(Some x) or d = x
 
 -- "An absent velocity is 7600, mechanism 9, period 0"
 abbrev pub absent_velocity : ℕ
@@ -41,8 +40,8 @@ field bit width written = record { bit = bit; width = width; written = written }
 -- period" (W-202). A field is always written, or has an absent number, or is absent without one
 abbrev pub layout : List Field
 layout =
-    field 0 1 (λ s. some s.model) ∷
-    field 1 2 (λ s. some s.magnitude) ∷
+    field 0 1 (λ s. Some s.model) ∷
+    field 1 2 (λ s. Some s.magnitude) ∷
     field 2 2 (λ s. rupture_number s.rupture) ∷
     field 3 2 (λ s. s.velocity unless absent_velocity) ∷
     field 4 1 (λ s. s.mechanism unless absent_mechanism) ∷
@@ -55,13 +54,13 @@ layout =
 abbrev pub scenario_of : List (Option ℕ) → Scenario
 scenario_of xs =
     record {
-      model = get_or xs 0 none or 0;
-      magnitude = get_or xs 1 none or 0;
-      rupture = rupture_of (get_or xs 2 none);
-      velocity = get_or xs 3 none or absent_velocity;
-      mechanism = get_or xs 4 none or absent_mechanism;
-      period = get_or xs 5 none or absent_period;
-      projection = projection_of (get_or xs 6 none);
+      model = get_or xs 0 None or 0;
+      magnitude = get_or xs 1 None or 0;
+      rupture = rupture_of (get_or xs 2 None);
+      velocity = get_or xs 3 None or absent_velocity;
+      mechanism = get_or xs 4 None or absent_mechanism;
+      period = get_or xs 5 None or absent_period;
+      projection = projection_of (get_or xs 6 None);
     }
 
 -- bit k of the map byte m stands
@@ -88,7 +87,7 @@ size_of (f ∷ fs) m = cond (stands f.bit m) f.width 0 + size_of fs m
 unfoldable pub numbers_of : List Field → ℕ → List ℕ → List (Option ℕ)
 numbers_of [] m s = []
 numbers_of (f ∷ fs) m s =
-    cond (stands f.bit m) (some (number_of (take f.width s))) none ∷
+    cond (stands f.bit m) (Some (number_of (take f.width s))) None ∷
     numbers_of fs m (drop (cond (stands f.bit m) f.width 0) s)
 
 -- "a field written with its absent number" ('What is turned away'): its bit stands, and the record of x leaves it out
@@ -112,8 +111,8 @@ map_of (f ∷ fs) x = cond (is_absent (f.written x)) 0 (2 ^ f.bit) + map_of fs x
 
 -- and the fields
 abbrev pub part_of : ℕ → Option ℕ → List ℕ
-part_of width none = []
-part_of width (some x) = bytes_of width x
+part_of width None = []
+part_of width (Some x) = bytes_of width x
 
 unfoldable pub parts_of : List Field → Scenario → List ℕ
 parts_of [] x = []

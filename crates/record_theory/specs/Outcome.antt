@@ -1,16 +1,22 @@
 -- What reading and writing answer, and the bytes that they hand back or leave.
 -- Document 01, 'Records and doubles' and 'What is turned away'; document 02, W-202, for the distances.
 use Rattle.std.specs.Prelude.{◌≡◌, not, ◌&&◌, List, [], ◌∷◌, ◌++◌, ℕ, ◌+◌, eqb, ltb, length, get_or, drop}
-use Rattle.std.proofs.Math.Option.{Option, some}
+use Rattle.std.specs.Prelude.{Option, Some, Result, Ok, Err}
 use Rattle.scenario_theory.specs.declared.Scenario.{Scenario}
+use Rattle.scenario_theory.specs.declared.Refusal.{Refusal}
 use Rattle.scenario_theory.specs.Checks.{◌when◌, ◌otherwise◌, unless_refused}
 use Rattle.scenario_theory.specs.Distances.{rupture_number, projection_number}
 use Rattle.scenario_theory.specs.Refusal.{refusal_of}
-use Rattle.record_theory.specs.declared.Reading.{Reading}
-use Rattle.record_theory.specs.declared.Reading.TheVariants as R
-use Rattle.record_theory.specs.declared.Writing.{Writing}
-use Rattle.record_theory.specs.declared.Writing.TheVariants as W
+use Rattle.scenario_theory.specs.Numbers.{refusal_number, with_number}
 use Rattle.record_theory.specs.Layout.{layout, scenario_of, stands, size_of, numbers_of, absent_written, record_of}
+
+-- what reading answers, the scenario and the length of its record, and what writing answers, the length, or why it is
+-- turned away
+abbrev pub Reading : Type 0
+Reading = Result (Scenario × ℕ) Refusal
+
+abbrev pub Writing : Type 0
+Writing = Result ℕ Refusal
 
 -- ---- reading
 
@@ -46,7 +52,8 @@ read_refusal s =
 
 -- "Reading hands back the scenario", with its record's length, or the number
 unfoldable pub read_of : List ℕ → Reading
-read_of s = unless_refused (read_refusal s) (R.Read (scenario_in s) (length_by (map_in s))) (R.Refused (read_refusal s))
+read_of s =
+    unless_refused (read_refusal s) (Ok (scenario_in s, length_by (map_in s))) (Err (with_number (read_refusal s)))
 
 -- where the rest begins, counted from the first byte
 unfoldable pub rest_at : List ℕ → ℕ
@@ -58,25 +65,25 @@ rest_of s = unless_refused (read_refusal s) (drop (length_by (map_in s)) s) []
 
 -- "this paper's number and values for each of its cases" ('What form each place needs'): 0 is no refusal
 abbrev pub reading_number : Reading → ℕ
-reading_number (R.Read x n) = 0
-reading_number (R.Refused k) = k
+reading_number (Ok x) = 0
+reading_number (Err e) = refusal_number e
 
 -- the fields in the layout's order, and the record's length; "An absent distance has no number" (W-202)
 abbrev pub values_of : Scenario → ℕ → List (Option ℕ)
 values_of x n =
-    some x.model ∷
-    some x.magnitude ∷
+    Some x.model ∷
+    Some x.magnitude ∷
     rupture_number x.rupture ∷
-    some x.velocity ∷
-    some x.mechanism ∷
-    some x.period ∷
+    Some x.velocity ∷
+    Some x.mechanism ∷
+    Some x.period ∷
     projection_number x.projection ∷
-    some n ∷
+    Some n ∷
     []
 
 abbrev pub reading_values : Reading → List (Option ℕ)
-reading_values (R.Read x n) = values_of x n
-reading_values (R.Refused k) = []
+reading_values (Ok x) = values_of x.0 x.1
+reading_values (Err e) = []
 
 -- what is promised of a reading of s, by number and values: "A refusal returns its number only"
 pub record ReadPromise (s : List ℕ) (r : Reading) : Type 0 where
@@ -93,7 +100,7 @@ write_refusal x lent = refusal_of x otherwise 12 when ltb (length lent) (length 
 -- "it returns the record's length"
 unfoldable pub write_of : Scenario → List ℕ → Writing
 write_of x lent =
-    unless_refused (write_refusal x lent) (W.Length (length (record_of x))) (W.Refused (write_refusal x lent))
+    unless_refused (write_refusal x lent) (Ok (length (record_of x))) (Err (with_number (write_refusal x lent)))
 
 -- the lent bytes afterwards: "the record at the front of the lent bytes", "all later bytes unchanged"; with a refusal
 -- "lent bytes do not change"
@@ -102,12 +109,12 @@ lent_after x lent = unless_refused (write_refusal x lent) (record_of x ++ drop (
 
 -- the number and the values of each case, as of a reading
 abbrev pub writing_number : Writing → ℕ
-writing_number (W.Length n) = 0
-writing_number (W.Refused k) = k
+writing_number (Ok n) = 0
+writing_number (Err e) = refusal_number e
 
 abbrev pub writing_values : Writing → List ℕ
-writing_values (W.Length n) = n ∷ []
-writing_values (W.Refused k) = []
+writing_values (Ok n) = n ∷ []
+writing_values (Err e) = []
 
 -- what is promised of writing x to lent bytes
 pub record WritePromise (x : Scenario) (lent : List ℕ) (r : Writing) : Type 0 where

@@ -1,18 +1,19 @@
 -- What the private functions of reading and writing say to each other; no promise to callers rests on reading it.
-use Rattle.std.specs.Prelude.{◌≡◌, not, List, ℕ, ◌≤◌, eqb, ltb, length}
+use Rattle.std.specs.Prelude.{◌≡◌, not, List, ℕ, ◌≤◌, eqb, ltb, length, Result, Ok, Err}
 use Rattle.scenario_theory.specs.declared.Scenario.{Scenario}
-use Rattle.scenario_theory.specs.declared.Check.{Check}
-use Rattle.scenario_theory.specs.declared.Check.TheVariants as K
+use Rattle.scenario_theory.specs.declared.Basis.{Basis}
+use Rattle.scenario_theory.specs.declared.Refusal.{Refusal}
 use Rattle.scenario_theory.specs.Checks.{◌when◌, ◌otherwise◌, unless_refused}
 use Rattle.scenario_theory.specs.Distances.{rupture_number, projection_number, is_absent}
 use Rattle.scenario_theory.specs.Refusal.{refusal_of}
+use Rattle.scenario_theory.specs.Numbers.{with_number}
 use Rattle.scenario_theory.specs.Accepted.{basis_of}
-use Rattle.record_theory.specs.declared.Reading.{Reading}
-use Rattle.record_theory.specs.declared.Reading.TheVariants as R
-use Rattle.record_theory.specs.declared.BasedReading.{BasedReading}
-use Rattle.record_theory.specs.declared.BasedReading.TheVariants as T
 use Rattle.record_theory.specs.Layout.{layout, stands, absent_written}
-use Rattle.record_theory.specs.Outcome.{map_in, scenario_in, length_by, map_refusal, read_refusal}
+use Rattle.record_theory.specs.Outcome.{Reading, map_in, scenario_in, length_by, map_refusal, read_refusal}
+
+-- what a check answers, by its number
+abbrev pub check_with : ℕ → Result (Unit {0}) Refusal
+check_with k = unless_refused k (Ok tt) (Err (with_number k))
 
 -- reading's checks before the fields are taken, and those of the fields
 unfoldable pub front_refusal : List ℕ → ℕ
@@ -30,23 +31,27 @@ pub record StandBy (m : ℕ) (x : Scenario) : Type 0 where
   pub projection : stands 6 m ≡ not (is_absent (projection_number x.projection))
 
 -- what an answer to the scenario rests on, as the last check has it
-unfoldable pub field_check : ℕ → Scenario → Check
-field_check m x = unless_refused (field_refusal m x) (basis_of x) (K.Refused (field_refusal m x))
+unfoldable pub field_check : ℕ → Scenario → Result Basis Refusal
+field_check m x = unless_refused (field_refusal m x) (basis_of x) (Err (with_number (field_refusal m x)))
 
 -- what is read, with that
-abbrev pub based_reading : Scenario → ℕ → Check → BasedReading
-based_reading x n (K.Accepted b) = T.Read x n b
-based_reading x n (K.Refused k) = T.Refused k
+abbrev pub BasedReading : Type 0
+BasedReading = Result (Scenario × ℕ × Basis) Refusal
+
+abbrev pub based_reading : Scenario → ℕ → Result Basis Refusal → BasedReading
+based_reading x n (Ok b) = Ok (x, n, b)
+based_reading x n (Err e) = Err e
 
 unfoldable pub based_reading_of : List ℕ → BasedReading
 based_reading_of s =
     let x : Scenario = scenario_in s in
-    unless_refused (read_refusal s) (based_reading x (length_by (map_in s)) (basis_of x)) (T.Refused (read_refusal s))
+    unless_refused (read_refusal s) (based_reading x (length_by (map_in s)) (basis_of x))
+    (Err (with_number (read_refusal s)))
 
 -- the same without it
 abbrev pub reading_in : BasedReading → Reading
-reading_in (T.Read x n b) = R.Read x n
-reading_in (T.Refused k) = R.Refused k
+reading_in (Ok x) = Ok (x.0, x.1)
+reading_in (Err e) = Err e
 
 -- the map byte at the front of s passes, and there are bytes for the fields that it calls for
 pub record Complete (s : List ℕ) : Type 0 where

@@ -1,25 +1,13 @@
 // The record of a scenario: what reading and writing answer, the layout, and laws. There is no code.
 #![tactic(auto)]
 
-use scenario_theory::{Basis, Scenario};
+use scenario_theory::{Basis, Refusal, Scenario};
 
-// What reading answers: the scenario and the length of its record, or the number with which it is turned away.
-#[derive(Clone, Copy)]
-pub enum Reading {
-    Read(Scenario, usize),
-    Refused(u8),
-}
+// What is read: the scenario, and the length of its record.
+pub type Reading = Result<(Scenario, usize), Refusal>;
 
-// What writing answers: the length of the record, or the number with which it is turned away.
-#[derive(Clone, Copy)]
-pub enum Writing {
-    Length(usize),
-    Refused(u8),
-}
+// What is written: the length of the record.
+pub type Writing = Result<usize, Refusal>;
 
 // What is read, with what an answer to the scenario rests on.
-#[derive(Clone, Copy)]
-pub enum BasedReading {
-    Read(Scenario, usize, Basis),
-    Refused(u8),
-}
+pub type BasedReading = Result<(Scenario, usize, Basis), Refusal>;

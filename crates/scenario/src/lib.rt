@@ -1,27 +1,38 @@
 // The checks of a scenario: 9 for the distance, 13 and 1 to 6.
 #![tactic(auto)]
 
-ghost use Rattle.std.specs.Prelude.{◌≡◌, not, [], ◌∷◌};
+ghost use Rattle.std.specs.Prelude.{◌≡◌, not, [], ◌∷◌, Some, None};
 ghost use Rattle.toolbox_theory.specs.Lists.{among};
-ghost use Rattle.scenario_theory.specs.declared.Rupture.TheVariants as R;
-ghost use Rattle.scenario_theory.specs.declared.Projection.TheVariants as P;
 ghost use Rattle.scenario_theory.specs.declared.Basis.TheVariants as B;
 ghost use Rattle.scenario_theory.specs.Checks.{◌to◌, beyond};
 ghost use Rattle.scenario_theory.specs.Distances.{rupture_number, projection_number, exceeds};
 ghost use Rattle.scenario_theory.specs.Refusal.{idriss, boore_atkinson, refusal_of};
 ghost use Rattle.scenario_theory.specs.Rows.{idriss_row, boore_atkinson_row};
-ghost use Rattle.scenario_theory.specs.Accepted.{scenario_with, check_by, based_on, check_of};
+ghost use Rattle.scenario_theory.specs.Accepted.{scenario_with, limit_check, check_by, check_of};
 
 use scenario_rows::{boore_atkinson_place, idriss_place};
-pub use scenario_theory::{
-    Basis, Check, Projection, ProjectionDistance, Rupture, RuptureDistance, Scenario,
-};
-use scenario_theory::{Lookup, Place};
+use scenario_theory::ModelLimits;
+pub use scenario_theory::{Basis, ProjectionDistance, Refusal, RuptureDistance, Scenario};
 
-fn outside(low: u16, high: u16, x: u16) -> bool
-    ensures { result ≡ beyond (low to high) x }
+// The columns of document 01, 'The scenario'.
+const IDRISS: ModelLimits = ModelLimits {
+    magnitude: (450, 790),
+    distance: 17_500,
+    velocity: (4_500, 20_000),
+    mechanism: 4,
+};
+
+const BOORE_ATKINSON: ModelLimits = ModelLimits {
+    magnitude: (500, 800),
+    distance: 19_999,
+    velocity: (1_800, 13_000),
+    mechanism: 9,
+};
+
+fn outside(limits: (u16, u16), x: u16) -> bool
+    ensures { result ≡ beyond (limits.0 to limits.1) x }
 {
-    x < low || high < x
+    x < limits.0 || limits.1 < x
 }
 
 // The mechanism codes of a model are 0 to 3 and one other.
@@ -31,26 +42,29 @@ fn unknown(code: u8, other: u8) -> bool
     3 < code && code != other
 }
 
-// What an answer by Idriss rests on, by the look-up of its period.
-fn idriss_basis(distance: RuptureDistance, lookup: Lookup) -> Check
-    ensures { result ≡ based_on (B.Idriss distance) lookup }
+// The checks 2 to 5 by a model's limits; the distance is the one that it reads.
+fn within(
+    limits: ModelLimits,
+    magnitude: u16,
+    distance: u16,
+    velocity: u16,
+    mechanism: u8,
+) -> Result<(), Refusal>
+    ensures { result ≡ limit_check limits magnitude distance velocity mechanism }
 {
-    match lookup {
-        Lookup::Row(k) => Check::Accepted(Basis::Idriss(distance, Place::Row(k))),
-        Lookup::Between(k) => Check::Accepted(Basis::Idriss(distance, Place::Between(k))),
-        Lookup::Outside => Check::Refused(6),
+    if outside(limits.magnitude, magnitude) {
+        return Err(Refusal::Magnitude);
     }
-}
-
-// And one by Boore and Atkinson.
-fn boore_atkinson_basis(distance: ProjectionDistance, lookup: Lookup) -> Check
-    ensures { result ≡ based_on (B.BooreAtkinson distance) lookup }
-{
-    match lookup {
-        Lookup::Row(k) => Check::Accepted(Basis::BooreAtkinson(distance, Place::Row(k))),
-        Lookup::Between(k) => Check::Accepted(Basis::BooreAtkinson(distance, Place::Between(k))),
-        Lookup::Outside => Check::Refused(6),
+    if outside((0, limits.distance), distance) {
+        return Err(Refusal::Distance);
     }
+    if outside(limits.velocity, velocity) {
+        return Err(Refusal::Velocity);
+    }
+    if unknown(mechanism, limits.mechanism) {
+        return Err(Refusal::Mechanism);
+    }
+    Ok(())
 }
 
 // The checks 2 to 6 by Idriss's limits, with what an answer rests on.
@@ -60,23 +74,13 @@ fn idriss_check(
     velocity: u16,
     mechanism: u8,
     period: u16,
-) -> Check
+) -> Result<Basis, Refusal>
     ensures { result ≡ check_by idriss idriss_row (B.Idriss distance)
-        (scenario_with 1 magnitude (R.At distance) velocity mechanism period P.Absent) }
+        (scenario_with 1 magnitude (Some distance) velocity mechanism period None) }
 {
-    if outside(450, 790, magnitude) {
-        return Check::Refused(2);
-    }
-    if outside(0, 17_500, distance.0) {
-        return Check::Refused(3);
-    }
-    if outside(4_500, 20_000, velocity) {
-        return Check::Refused(4);
-    }
-    if unknown(mechanism, 4) {
-        return Check::Refused(5);
-    }
-    idriss_basis(distance, idriss_place(period))
+    within(IDRISS, magnitude, distance.0, velocity, mechanism)?;
+    let place = idriss_place(period).ok_or(Refusal::Period)?;
+    Ok(Basis::Idriss(distance, place))
 }
 
 // And those by Boore and Atkinson's.
@@ -86,74 +90,61 @@ fn boore_atkinson_check(
     velocity: u16,
     mechanism: u8,
     period: u16,
-) -> Check
+) -> Result<Basis, Refusal>
     ensures { result ≡ check_by boore_atkinson boore_atkinson_row (B.BooreAtkinson distance)
-        (scenario_with 2 magnitude R.Absent velocity mechanism period (P.At distance)) }
+        (scenario_with 2 magnitude None velocity mechanism period (Some distance)) }
 {
-    if outside(500, 800, magnitude) {
-        return Check::Refused(2);
-    }
-    if outside(0, 19_999, distance.0) {
-        return Check::Refused(3);
-    }
-    if outside(1_800, 13_000, velocity) {
-        return Check::Refused(4);
-    }
-    if unknown(mechanism, 9) {
-        return Check::Refused(5);
-    }
-    boore_atkinson_basis(distance, boore_atkinson_place(period))
+    within(BOORE_ATKINSON, magnitude, distance.0, velocity, mechanism)?;
+    let place = boore_atkinson_place(period).ok_or(Refusal::Period)?;
+    Ok(Basis::BooreAtkinson(distance, place))
 }
 
 // Whether both distances stand and the projection distance exceeds the rupture distance.
-fn projection_exceeds(rupture: Rupture, projection: Projection) -> bool
+fn projection_exceeds(
+    rupture: Option<RuptureDistance>,
+    projection: Option<ProjectionDistance>,
+) -> bool
     ensures { result ≡ exceeds (projection_number projection) (rupture_number rupture) }
 {
-    match projection {
-        Projection::Absent => false,
-        Projection::At(p) => match rupture {
-            Rupture::Absent => false,
-            Rupture::At(r) => r.0 < p.0,
-        },
+    match (rupture, projection) {
+        (Some(r), Some(p)) => r.0 < p.0,
+        _ => false,
     }
 }
 
 // The checks 9 for the distance, 13 and 1 to 6 of the scenario that has these fields: what the answer rests on, or the
-// number of the first that it fails. The fields pass one by one, as a struct would be stored and read back. Where 13
-// applies both distances stand, so that 9 does not, and it can be looked at first.
+// first that it fails. The fields pass one by one, as a struct would be stored and read back. Where 13 applies both
+// distances stand, so that 9 does not, and it can be looked at first.
 pub fn check(
     model: u8,
     magnitude: u16,
-    rupture: Rupture,
+    rupture: Option<RuptureDistance>,
     velocity: u16,
     mechanism: u8,
     period: u16,
-    projection: Projection,
-) -> Check
+    projection: Option<ProjectionDistance>,
+) -> Result<Basis, Refusal>
     ensures { result ≡ check_of
         (scenario_with model magnitude rupture velocity mechanism period projection) }
 {
     if projection_exceeds(rupture, projection) {
-        return Check::Refused(13);
+        return Err(Refusal::ProjectionExceedsRupture);
     }
     match model {
-        1 => match rupture {
-            Rupture::Absent => Check::Refused(9),
-            Rupture::At(distance) => {
-                idriss_check(magnitude, distance, velocity, mechanism, period)
-            }
-        },
-        2 => match projection {
-            Projection::Absent => Check::Refused(9),
-            Projection::At(distance) => {
-                boore_atkinson_check(magnitude, distance, velocity, mechanism, period)
-            }
-        },
-        _ => Check::Refused(1),
+        1 => {
+            let distance = rupture.ok_or(Refusal::MissingField)?;
+            idriss_check(magnitude, distance, velocity, mechanism, period)
+        }
+        2 => {
+            let distance = projection.ok_or(Refusal::MissingField)?;
+            boore_atkinson_check(magnitude, distance, velocity, mechanism, period)
+        }
+        _ => Err(Refusal::Model),
     }
 }
 
-// The first of the checks 9 for the distance, 13 and 1 to 6 that s fails, 0 where it fails none.
+// The number of the first of the checks 9 for the distance, 13 and 1 to 6 that s fails, 0 where it fails none: the number
+// that C is told.
 pub fn refusal(s: Scenario) -> u8
     ensures { result ≡ refusal_of s }
 {
@@ -168,7 +159,7 @@ pub fn refusal(s: Scenario) -> u8
         s.period,
         projection,
     ) {
-        Check::Accepted(_) => 0,
-        Check::Refused(k) => k,
+        Ok(_) => 0,
+        Err(e) => e.into(),
     }
 }

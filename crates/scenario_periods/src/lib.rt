@@ -8,9 +8,7 @@ ghost use Rattle.scenario_theory.specs.Neighbours.{row_periods_of};
 use scenario::check;
 use scenario_rows::{boore_atkinson_period, idriss_period};
 pub use scenario_theory::RowPeriods;
-use scenario_theory::{
-    Basis, Check, Place, Projection, ProjectionDistance, Rupture, RuptureDistance,
-};
+use scenario_theory::{Basis, Place, ProjectionDistance, Refusal, RuptureDistance};
 
 // The period of row k in the tables of Idriss for model 1, of Boore-Atkinson for any other.
 fn period_of_row(model: u8, k: usize) -> u16
@@ -31,24 +29,24 @@ fn periods_at(model: u8, place: Place) -> RowPeriods
     match place {
         Place::Row(k) => {
             let t = period_of_row(model, k);
-            RowPeriods::Rows(t, t)
+            RowPeriods { lower: t, upper: t }
         }
-        Place::Between(k) => RowPeriods::Rows(period_of_row(model, k), period_of_row(model, k + 1)),
+        Place::Between(k) => RowPeriods {
+            lower: period_of_row(model, k),
+            upper: period_of_row(model, k + 1),
+        },
     }
 }
 
 // The periods of the two rows that a median at a period rests on: equal where the period has a row of its own, else
 // its neighbours in the tables of the model. The checks look them up, of a scenario that is accepted but for these two.
-pub fn row_periods(model: u8, period: u16) -> RowPeriods
+pub fn row_periods(model: u8, period: u16) -> Result<RowPeriods, Refusal>
     ensures { result ≡ row_periods_of model period }
 {
-    let rupture = Rupture::At(RuptureDistance(0));
-    let projection = Projection::At(ProjectionDistance(0));
-    match check(model, 700, rupture, 7_600, 0, period, projection) {
-        Check::Accepted(basis) => match basis {
-            Basis::Idriss(_, place) => periods_at(1, place),
-            Basis::BooreAtkinson(_, place) => periods_at(2, place),
-        },
-        Check::Refused(k) => RowPeriods::Refused(k),
+    let rupture = Some(RuptureDistance(0));
+    let projection = Some(ProjectionDistance(0));
+    match check(model, 700, rupture, 7_600, 0, period, projection)? {
+        Basis::Idriss(_, place) => Ok(periods_at(1, place)),
+        Basis::BooreAtkinson(_, place) => Ok(periods_at(2, place)),
     }
 }

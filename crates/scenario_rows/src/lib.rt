@@ -3,11 +3,11 @@
 
 ghost use Rattle.std.specs.Prelude.{◌≡◌, cond, ◌&&◌, ◌∷◌, ◌+◌, ◌-◌, ◌≤◌, ◌<◌, ltb, get_or};
 ghost use Rattle.toolbox_theory.specs.Lists.{count_below};
-ghost use Rattle.scenario_theory.specs.declared.Lookup.TheVariants as L;
+ghost use Rattle.scenario_theory.specs.declared.Place.TheVariants as P;
 ghost use Rattle.scenario_theory.specs.Refusal.{idriss, boore_atkinson};
 ghost use Rattle.scenario_theory.specs.Rows.{row_count, idriss_place, boore_atkinson_place};
 
-use scenario_theory::Lookup;
+use scenario_theory::Place;
 
 // Idriss's tabled periods, in thousandths of a second; Boore-Atkinson has the same without 40.
 const PERIODS: [u16; 22] = [
@@ -39,17 +39,17 @@ fn count_below(period: u16) -> usize
 
 // The place of a period that has no row, after n of so many periods, the first of which has row `first`; none before
 // all of them or after.
-fn after(n: usize, count: usize, first: usize) -> Lookup
+fn after(n: usize, count: usize, first: usize) -> Option<Place>
     requires { (n ≤ 22) × (first ≤ 1) }
-    ensures { result ≡ cond (ltb 0 n && ltb n count) (L.Between (first + n - 1)) L.Outside }
+    ensures { result ≡ cond (ltb 0 n && ltb n count) (Some (P.Between (first + n - 1))) None }
 {
     if n == 0 {
-        return Lookup::Outside;
+        return None;
     }
     if n < count {
-        return Lookup::Between(first + n - 1);
+        return Some(Place::Between(first + n - 1));
     }
-    Lookup::Outside
+    None
 }
 
 // How many of Boore-Atkinson's periods are below a period.
@@ -64,64 +64,64 @@ fn count_below_without_40(period: u16) -> usize
 }
 
 // Where a period stands in Idriss's tables, or that it is outside them.
-pub fn idriss_place(period: u16) -> Lookup
+pub fn idriss_place(period: u16) -> Option<Place>
     ensures { result ≡ idriss_place period }
 {
     match period {
-        0 => Lookup::Row(0),
-        10 => Lookup::Row(0),
-        20 => Lookup::Row(1),
-        30 => Lookup::Row(2),
-        40 => Lookup::Row(3),
-        50 => Lookup::Row(4),
-        75 => Lookup::Row(5),
-        100 => Lookup::Row(6),
-        150 => Lookup::Row(7),
-        200 => Lookup::Row(8),
-        250 => Lookup::Row(9),
-        300 => Lookup::Row(10),
-        400 => Lookup::Row(11),
-        500 => Lookup::Row(12),
-        750 => Lookup::Row(13),
-        1_000 => Lookup::Row(14),
-        1_500 => Lookup::Row(15),
-        2_000 => Lookup::Row(16),
-        3_000 => Lookup::Row(17),
-        4_000 => Lookup::Row(18),
-        5_000 => Lookup::Row(19),
-        7_500 => Lookup::Row(20),
-        10_000 => Lookup::Row(21),
+        0 => Some(Place::Row(0)),
+        10 => Some(Place::Row(0)),
+        20 => Some(Place::Row(1)),
+        30 => Some(Place::Row(2)),
+        40 => Some(Place::Row(3)),
+        50 => Some(Place::Row(4)),
+        75 => Some(Place::Row(5)),
+        100 => Some(Place::Row(6)),
+        150 => Some(Place::Row(7)),
+        200 => Some(Place::Row(8)),
+        250 => Some(Place::Row(9)),
+        300 => Some(Place::Row(10)),
+        400 => Some(Place::Row(11)),
+        500 => Some(Place::Row(12)),
+        750 => Some(Place::Row(13)),
+        1_000 => Some(Place::Row(14)),
+        1_500 => Some(Place::Row(15)),
+        2_000 => Some(Place::Row(16)),
+        3_000 => Some(Place::Row(17)),
+        4_000 => Some(Place::Row(18)),
+        5_000 => Some(Place::Row(19)),
+        7_500 => Some(Place::Row(20)),
+        10_000 => Some(Place::Row(21)),
         _ => after(count_below(period), 22, 0),
     }
 }
 
 // Where a period stands in Boore-Atkinson's tables, or that it is outside them.
-pub fn boore_atkinson_place(period: u16) -> Lookup
+pub fn boore_atkinson_place(period: u16) -> Option<Place>
     ensures { result ≡ boore_atkinson_place period }
 {
     match period {
-        0 => Lookup::Row(0),
-        10 => Lookup::Row(1),
-        20 => Lookup::Row(2),
-        30 => Lookup::Row(3),
-        50 => Lookup::Row(4),
-        75 => Lookup::Row(5),
-        100 => Lookup::Row(6),
-        150 => Lookup::Row(7),
-        200 => Lookup::Row(8),
-        250 => Lookup::Row(9),
-        300 => Lookup::Row(10),
-        400 => Lookup::Row(11),
-        500 => Lookup::Row(12),
-        750 => Lookup::Row(13),
-        1_000 => Lookup::Row(14),
-        1_500 => Lookup::Row(15),
-        2_000 => Lookup::Row(16),
-        3_000 => Lookup::Row(17),
-        4_000 => Lookup::Row(18),
-        5_000 => Lookup::Row(19),
-        7_500 => Lookup::Row(20),
-        10_000 => Lookup::Row(21),
+        0 => Some(Place::Row(0)),
+        10 => Some(Place::Row(1)),
+        20 => Some(Place::Row(2)),
+        30 => Some(Place::Row(3)),
+        50 => Some(Place::Row(4)),
+        75 => Some(Place::Row(5)),
+        100 => Some(Place::Row(6)),
+        150 => Some(Place::Row(7)),
+        200 => Some(Place::Row(8)),
+        250 => Some(Place::Row(9)),
+        300 => Some(Place::Row(10)),
+        400 => Some(Place::Row(11)),
+        500 => Some(Place::Row(12)),
+        750 => Some(Place::Row(13)),
+        1_000 => Some(Place::Row(14)),
+        1_500 => Some(Place::Row(15)),
+        2_000 => Some(Place::Row(16)),
+        3_000 => Some(Place::Row(17)),
+        4_000 => Some(Place::Row(18)),
+        5_000 => Some(Place::Row(19)),
+        7_500 => Some(Place::Row(20)),
+        10_000 => Some(Place::Row(21)),
         _ => after(count_below_without_40(period), 21, 1),
     }
 }

@@ -2,8 +2,9 @@
 use mathlib.Core.Path.{◌≡◌, refl, sym, ap, subst, ◌∙◌}
 use mathlib.Core.Bool.{Bool, true, false, false≢true, not, and-false}
 use mathlib.Core.Logic.{⊎_elim}
-use mathlib.Core.Option.{Option, none, some}
-use Prim.Native.Nat.{ℕ}
+use Rattle.std.specs.Prelude.{Option, Some, None, Result, Ok, Err}
+use mathlib.Core.List.{[], ◌∷◌}
+use Prim.Native.Nat.{ℕ, zero, suc}
 use native.Mathlib.Omega.{arith}
 use borrow.Author.Tests.{eqb-true}
 use lib.Dec.{eqb}
@@ -11,29 +12,25 @@ use Rattle.toolbox_theory.specs.Lists.{among}
 use Rattle.scenario_theory.specs.declared.Scenario.{Scenario}
 use Rattle.scenario_theory.specs.declared.RuptureDistance.{RuptureDistance}
 use Rattle.scenario_theory.specs.declared.ProjectionDistance.{ProjectionDistance}
-use Rattle.scenario_theory.specs.declared.Rupture.{Rupture}
-use Rattle.scenario_theory.specs.declared.Rupture.TheVariants as R
-use Rattle.scenario_theory.specs.declared.Projection.{Projection}
-use Rattle.scenario_theory.specs.declared.Projection.TheVariants as P
 use Rattle.scenario_theory.specs.declared.Place.{Place}
-use Rattle.scenario_theory.specs.declared.Place.TheVariants as Q
-use Rattle.scenario_theory.specs.declared.Lookup.{Lookup}
-use Rattle.scenario_theory.specs.declared.Lookup.TheVariants as L
+use Rattle.scenario_theory.specs.declared.Refusal.{Refusal}
+use Rattle.scenario_theory.specs.declared.Refusal.TheVariants as E
 use Rattle.scenario_theory.specs.declared.Basis.{Basis}
 use Rattle.scenario_theory.specs.declared.Basis.TheVariants as B
-use Rattle.scenario_theory.specs.declared.Check.{Check}
-use Rattle.scenario_theory.specs.declared.Check.TheVariants as K
-use Rattle.scenario_theory.specs.Checks.{beyond, ◌when◌, unless_refused}
+use Rattle.scenario_theory.specs.Checks.{◌to◌, beyond, ◌when◌, ◌otherwise◌, unless_refused}
 use Rattle.scenario_theory.specs.Distances.{rupture_number, projection_number, is_absent, given, exceeds}
 use Rattle.scenario_theory.specs.Refusal.{Limits, idriss, boore_atkinson, beyond_periods, refusal_by}
 use Rattle.scenario_theory.specs.Refusal.{refusal_by_model, lacks_distance, projection_exceeds, refusal_of}
 use Rattle.scenario_theory.specs.Rows.{place_by, idriss_row, boore_atkinson_row, idriss_place, boore_atkinson_place}
-use Rattle.scenario_theory.specs.Rows.{row_list, found}
+use Rattle.scenario_theory.specs.Rows.{row_list}
 use Rattle.scenario_theory.specs.Neighbours.{row_periods_of}
-use Rattle.scenario_theory.specs.Accepted.{scenario_with, check_by, basis_of, based_on, check_of, periods_on}
+use Rattle.scenario_theory.specs.Numbers.{refusal_number, with_number}
+use Rattle.scenario_theory.specs.declared.ModelLimits.{ModelLimits}
+use Rattle.scenario_theory.specs.Accepted.{code_limits, limit_number, limit_check, scenario_with, check_by, basis_of, based_on, check_of, periods_on}
 use Rattle.scenario_theory.specs.Accepted.{InTables, plain_scenario, RestsOn}
 use Rattle.scenario_theory.proofs.CheckLaws.{unless_is}
 use Rattle.scenario_theory.proofs.RefusalLaws.{WithinBy, of_model}
+use Rattle.scenario_theory.proofs.NumberLaws.{numbered, refusal_numbered}
 use Rattle.scenario_theory.proofs.RowLaws.{placed, idriss_listed, boore_atkinson_listed}
 use Rattle.scenario_theory.proofs.PeriodLaws.{idriss_in_table, boore_atkinson_in_table, idriss_periods_lem}
 use Rattle.scenario_theory.proofs.PeriodLaws.{periods_found, Tabled, boore_atkinson_periods}
@@ -42,124 +39,196 @@ use Rattle.scenario_theory.proofs.PeriodLaws.{periods_found, Tabled, boore_atkin
 
 -- the last of them, by the test of the period
 last_number : (basis : Place → Basis) (p : Place) (b : Bool) →
-    based_on basis (unless_refused (6 when b) (found p) L.Outside) ≡
-    unless_refused (6 when b) (K.Accepted (basis p)) (K.Refused (6 when b))
+    based_on basis (unless_refused (6 when b) (Some p) None) ≡
+    unless_refused (6 when b) (Ok (basis p)) (Err (with_number (6 when b)))
 last_number basis p true = refl
-last_number basis (Q.Row k) false = refl
-last_number basis (Q.Between k) false = refl
+last_number basis p false = refl
 
-module _ (m : Limits) (row : ℕ → ℕ) (basis : Place → Basis) (s : Scenario) where
-  pub fails_2 : beyond m.magnitude s.magnitude ≡ true → K.Refused 2 ≡ check_by m row basis s
-  unfolding check_by refusal_by
+-- 2 to 5 by the limits that the code has of a model
+module _ (l : ModelLimits) (M R Vs mechanism : ℕ) where
+  pub fails_2 : beyond (l.magnitude.0 to l.magnitude.1) M ≡ true → Err E.Magnitude ≡ limit_check l M R Vs mechanism
+  unfolding limit_check limit_number
   fails_2 e = rw e refl
 
-  module _ (two : beyond m.magnitude s.magnitude ≡ false) where
-    pub fails_3 : given (m.reads s) (beyond m.distance) false ≡ true → K.Refused 3 ≡ check_by m row basis s
-    unfolding check_by refusal_by
+  module _ (two : beyond (l.magnitude.0 to l.magnitude.1) M ≡ false) where
+    pub fails_3 : beyond (0 to l.distance) R ≡ true → Err E.Distance ≡ limit_check l M R Vs mechanism
+    unfolding limit_check limit_number
     fails_3 e = rw (two, e) refl
 
-    module _ (three : given (m.reads s) (beyond m.distance) false ≡ false) where
-      pub fails_4 : beyond m.velocity s.velocity ≡ true → K.Refused 4 ≡ check_by m row basis s
-      unfolding check_by refusal_by
+    module _ (three : beyond (0 to l.distance) R ≡ false) where
+      pub fails_4 : beyond (l.velocity.0 to l.velocity.1) Vs ≡ true → Err E.Velocity ≡ limit_check l M R Vs mechanism
+      unfolding limit_check limit_number
       fails_4 e = rw (two, three, e) refl
 
-      module _ (four : beyond m.velocity s.velocity ≡ false) where
-        pub fails_5 : not (among m.mechanisms s.mechanism) ≡ true → K.Refused 5 ≡ check_by m row basis s
-        unfolding check_by refusal_by
+      module _ (four : beyond (l.velocity.0 to l.velocity.1) Vs ≡ false) where
+        pub fails_5 : not (among (0 ∷ 1 ∷ 2 ∷ 3 ∷ l.mechanism ∷ []) mechanism) ≡ true →
+            Err E.Mechanism ≡ limit_check l M R Vs mechanism
+        unfolding limit_check limit_number
         fails_5 e = rw (two, three, four, e) refl
 
-        -- and the last, the period's
-        last_check : {l : Lookup} → not (among m.mechanisms s.mechanism) ≡ false →
-            l ≡ unless_refused (6 when beyond_periods s.period) (found (place_by m row s.period)) L.Outside →
-            based_on basis l ≡ check_by m row basis s
-        unfolding check_by refusal_by
-        last_check five h =
-            rw (h, two, three, four, five) (last_number basis (place_by m row s.period) (beyond_periods s.period))
+        pub none_fails : not (among (0 ∷ 1 ∷ 2 ∷ 3 ∷ l.mechanism ∷ []) mechanism) ≡ false →
+            Ok tt ≡ limit_check l M R Vs mechanism
+        unfolding limit_check limit_number
+        none_fails e = rw (two, three, four, e) refl
 
--- none of those before the period's applies
-pub record NoneBefore (m : Limits) (s : Scenario) : Type 0 where
-  pub two : beyond m.magnitude s.magnitude ≡ false
-  pub three : given (m.reads s) (beyond m.distance) false ≡ false
-  pub four : beyond m.velocity s.velocity ≡ false
-  pub five : not (among m.mechanisms s.mechanism) ≡ false
+-- by these limits and the distance R the checks of s are those of m
+abbrev LimitsOf : Limits → Scenario → ModelLimits → ℕ → Type 0
+LimitsOf m s l R =
+    refusal_by m s ≡ (limit_number l s.magnitude R s.velocity s.mechanism otherwise 6 when beyond_periods s.period)
 
-pub idriss_last : (basis : Place → Basis) {s : Scenario} {l : Lookup} → NoneBefore idriss s →
-    l ≡ idriss_place s.period → based_on basis l ≡ check_by idriss idriss_row basis s
-unfolding idriss_place
-idriss_last basis {s} n h =
-    last_check idriss idriss_row basis s n.two n.three n.four n.five
-    (h ∙ placed 0 idriss idriss_row idriss_listed s.period)
+module _ (m : Limits) (row : ℕ → ℕ) (basis : Place → Basis) (s : Scenario) (l : ModelLimits) (R : ℕ)
+    (limits : LimitsOf m s l R) where
+  abbrev first_four : ℕ
+  first_four = limit_number l s.magnitude R s.velocity s.mechanism
 
-pub boore_atkinson_last : (basis : Place → Basis) {s : Scenario} {l : Lookup} → NoneBefore boore_atkinson s →
-    l ≡ boore_atkinson_place s.period → based_on basis l ≡ check_by boore_atkinson boore_atkinson_row basis s
-unfolding boore_atkinson_place
-boore_atkinson_last basis {s} n h =
-    last_check boore_atkinson boore_atkinson_row basis s n.two n.three n.four n.five
-    (h ∙ placed 1 boore_atkinson boore_atkinson_row boore_atkinson_listed s.period)
+  abbrev four_check : ℕ → Result (Unit {0}) Refusal
+  four_check n = unless_refused n (Ok tt) (Err (with_number n))
+
+  limit_fails : {e : Refusal} → limit_check l s.magnitude R s.velocity s.mechanism ≡ Err e →
+      Err e ≡ check_by m row basis s
+  unfolding limit_check check_by
+  limit_fails {e} q = go first_four refl q
+    where
+      go : (n : ℕ) → first_four ≡ n → four_check n ≡ Err e → Err e ≡ check_by m row basis s
+      go zero p q = let z : ◌≡◌ {A = ℕ} 0 1 = cc in absurd (omega arith)
+      go (suc n) p q = let same : with_number (suc n) ≡ e = cc in rw (limits, p) (ap Err (sym same))
+
+  -- and the last, the period's
+  last_check : {c : Option Place} → limit_check l s.magnitude R s.velocity s.mechanism ≡ Ok tt →
+      c ≡ unless_refused (6 when beyond_periods s.period) (Some (place_by m row s.period)) None →
+      based_on basis c ≡ check_by m row basis s
+  unfolding limit_check check_by
+  last_check {c} q h = go first_four refl q
+    where
+      go : (n : ℕ) → first_four ≡ n → four_check n ≡ Ok tt → based_on basis c ≡ check_by m row basis s
+      go zero p q = rw (h, limits, p) (last_number basis (place_by m row s.period) (beyond_periods s.period))
+      go (suc n) p q = let z : ◌≡◌ {A = ℕ} 0 1 = cc in absurd (omega arith)
+
+first_of_five : (i j k m n : ℕ) →
+    (i otherwise j otherwise k otherwise m otherwise n) ≡ ((i otherwise j otherwise k otherwise m) otherwise n)
+first_of_five zero zero zero m n = refl
+first_of_five zero zero (suc k) m n = refl
+first_of_five zero (suc j) k m n = refl
+first_of_five (suc i) j k m n = refl
+
+of_column : (m : Limits) (M R Vs mechanism T : ℕ) →
+    (2 when beyond m.magnitude M otherwise
+    3 when beyond m.distance R otherwise
+    4 when beyond m.velocity Vs otherwise
+    5 when not (among m.mechanisms mechanism) otherwise
+    6 when beyond_periods T) ≡
+    ((2 when beyond m.magnitude M otherwise
+    3 when beyond m.distance R otherwise
+    4 when beyond m.velocity Vs otherwise
+    5 when not (among m.mechanisms mechanism)) otherwise
+    6 when beyond_periods T)
+of_column m M R Vs mechanism T =
+    first_of_five (2 when beyond m.magnitude M) (3 when beyond m.distance R) (4 when beyond m.velocity Vs)
+    (5 when not (among m.mechanisms mechanism)) (6 when beyond_periods T)
+
+module _ (basis : Place → Basis) (M Vs mechanism T : ℕ) where
+  module _ (d : RuptureDistance) where
+    abbrev by_rupture_distance : Scenario
+    by_rupture_distance = scenario_with 1 M (Some d) Vs mechanism T None
+
+    idriss_limits : LimitsOf idriss by_rupture_distance (code_limits idriss 4) d.0
+    unfolding refusal_by limit_number
+    idriss_limits = of_column idriss M d.0 Vs mechanism T
+
+    pub idriss_fails : {e : Refusal} → limit_check (code_limits idriss 4) M d.0 Vs mechanism ≡ Err e →
+        Err e ≡ check_by idriss idriss_row basis by_rupture_distance
+    idriss_fails = limit_fails idriss idriss_row basis by_rupture_distance _ _ idriss_limits
+
+    pub idriss_last : {c : Option Place} → limit_check (code_limits idriss 4) M d.0 Vs mechanism ≡ Ok tt →
+        c ≡ idriss_place T → based_on basis c ≡ check_by idriss idriss_row basis by_rupture_distance
+    unfolding idriss_place
+    idriss_last q h =
+        last_check idriss idriss_row basis by_rupture_distance _ _ idriss_limits q
+        (h ∙ placed 0 idriss idriss_row idriss_listed T)
+
+  module _ (d : ProjectionDistance) where
+    abbrev by_projection_distance : Scenario
+    by_projection_distance = scenario_with 2 M None Vs mechanism T (Some d)
+
+    boore_atkinson_limits : LimitsOf boore_atkinson by_projection_distance (code_limits boore_atkinson 9) d.0
+    unfolding refusal_by limit_number
+    boore_atkinson_limits = of_column boore_atkinson M d.0 Vs mechanism T
+
+    pub boore_atkinson_fails : {e : Refusal} → limit_check (code_limits boore_atkinson 9) M d.0 Vs mechanism ≡ Err e →
+        Err e ≡ check_by boore_atkinson boore_atkinson_row basis by_projection_distance
+    boore_atkinson_fails = limit_fails boore_atkinson boore_atkinson_row basis by_projection_distance _ _ boore_atkinson_limits
+
+    pub boore_atkinson_last : {c : Option Place} →
+        limit_check (code_limits boore_atkinson 9) M d.0 Vs mechanism ≡ Ok tt → c ≡ boore_atkinson_place T →
+        based_on basis c ≡ check_by boore_atkinson boore_atkinson_row basis by_projection_distance
+    unfolding boore_atkinson_place
+    boore_atkinson_last q h =
+        last_check boore_atkinson boore_atkinson_row basis by_projection_distance _ _ boore_atkinson_limits q
+        (h ∙ placed 1 boore_atkinson boore_atkinson_row boore_atkinson_listed T)
 
 -- ---- all checks
 
 -- two numbers the first of which exceeds the second both stand
 both_stand : (p r : Option ℕ) → exceeds p r ≡ true → (is_absent p ≡ false) × (is_absent r ≡ false)
-both_stand none r e = absurd (false≢true e)
-both_stand (some p) none e = absurd (false≢true e)
-both_stand (some p) (some r) e = (refl, refl)
+both_stand None r e = absurd (false≢true e)
+both_stand (Some p) None e = absurd (false≢true e)
+both_stand (Some p) (Some r) e = (refl, refl)
 
 -- so 9 does not apply where 13 does
-pub exceeded : (s : Scenario) → projection_exceeds s ≡ true → K.Refused 13 ≡ check_of s
+pub exceeded : (s : Scenario) → projection_exceeds s ≡ true → Err E.ProjectionExceedsRupture ≡ check_of s
 unfolding check_of refusal_of lacks_distance projection_exceeds
 exceeded s e =
     let b = both_stand (projection_number s.projection) (rupture_number s.rupture) e in
     simp (b.0, b.1, and-false, e) refl
 
 module _ (M Vs mechanism T : ℕ) where
-  pub idriss_checked : (d : RuptureDistance) (projection : Projection) {c : Check} →
-      exceeds (projection_number projection) (some d.0) ≡ false →
-      c ≡ check_by idriss idriss_row (B.Idriss d) (scenario_with 1 M (R.At d) Vs mechanism T P.Absent) →
-      c ≡ check_of (scenario_with 1 M (R.At d) Vs mechanism T projection)
+  pub idriss_checked : (d : RuptureDistance) (projection : Option ProjectionDistance) {c : Result Basis Refusal} →
+      exceeds (projection_number projection) (Some d.0) ≡ false →
+      c ≡ check_by idriss idriss_row (B.Idriss d) (scenario_with 1 M (Some d) Vs mechanism T None) →
+      c ≡ check_of (scenario_with 1 M (Some d) Vs mechanism T projection)
   unfolding check_of refusal_of lacks_distance projection_exceeds refusal_by_model basis_of check_by refusal_by
   idriss_checked d projection e h = h ∙ rw e refl
 
-  pub boore_atkinson_checked : (d : ProjectionDistance) (rupture : Rupture) {c : Check} →
-      exceeds (some d.0) (rupture_number rupture) ≡ false →
+  pub boore_atkinson_checked : (d : ProjectionDistance) (rupture : Option RuptureDistance) {c : Result Basis Refusal} →
+      exceeds (Some d.0) (rupture_number rupture) ≡ false →
       c ≡ check_by boore_atkinson boore_atkinson_row (B.BooreAtkinson d)
-      (scenario_with 2 M R.Absent Vs mechanism T (P.At d)) →
-      c ≡ check_of (scenario_with 2 M rupture Vs mechanism T (P.At d))
+      (scenario_with 2 M None Vs mechanism T (Some d)) →
+      c ≡ check_of (scenario_with 2 M rupture Vs mechanism T (Some d))
   unfolding check_of refusal_of lacks_distance projection_exceeds refusal_by_model basis_of check_by refusal_by
   boore_atkinson_checked d rupture e h = h ∙ rw e refl
 
 -- ---- the periods of the rows, as the checks of a scenario look them up
 
 -- what holds of a look-up holds of what rests on it
-abbrev LooksUp : ℕ → ℕ → Check → Type 0
+abbrev LooksUp : ℕ → ℕ → Result Basis Refusal → Type 0
 LooksUp model T c = InTables c × (periods_on c ≡ row_periods_of model T)
 
 module _ (T : ℕ) where
-  by_idriss_lem : (l : Lookup) → Tabled l × (periods_found (row_list 1) l ≡ row_periods_of 1 T) →
+  by_idriss_lem : (l : Option Place) → Tabled l × (periods_found (row_list 1) l ≡ row_periods_of 1 T) →
       LooksUp 1 T (based_on (B.Idriss (record { 0 = 0 })) l)
-  by_idriss_lem (L.Row k) h = h
-  by_idriss_lem (L.Between k) h = h
-  by_idriss_lem L.Outside h = h
+  by_idriss_lem (Some p) h = h
+  by_idriss_lem None h = h
 
-  by_boore_atkinson : (l : Lookup) → Tabled l × (periods_found (row_list 2) l ≡ row_periods_of 2 T) →
+  by_boore_atkinson : (l : Option Place) → Tabled l × (periods_found (row_list 2) l ≡ row_periods_of 2 T) →
       LooksUp 2 T (based_on (B.BooreAtkinson (record { 0 = 0 })) l)
-  by_boore_atkinson (L.Row k) h = h
-  by_boore_atkinson (L.Between k) h = h
-  by_boore_atkinson L.Outside h = h
+  by_boore_atkinson (Some p) h = h
+  by_boore_atkinson None h = h
 
   idriss_looks_up : LooksUp 1 T (check_of (plain_scenario 1 T))
-  unfolding row_periods_of
+  unfolding row_periods_of limit_check limit_number
   idriss_looks_up =
-      let none : NoneBefore idriss _ = record { two = refl; three = refl; four = refl; five = refl } in
-      let checked = idriss_checked 700 7_600 0 T (record { 0 = 0 }) _ refl (idriss_last _ none refl) in
+      let none : limit_check (code_limits idriss 4) 700 0 7_600 0 ≡ Ok tt = refl in
+      let checked = idriss_checked 700 7_600 0 T (record { 0 = 0 }) _ refl
+      (idriss_last _ _ _ _ _ (record { 0 = 0 }) none refl) in
       subst (LooksUp 1 T) checked
       (by_idriss_lem (idriss_place T) (idriss_in_table T, idriss_periods_lem T))
 
   boore_atkinson_looks_up : LooksUp 2 T (check_of (plain_scenario 2 T))
-  unfolding row_periods_of
+  unfolding row_periods_of limit_check limit_number
   boore_atkinson_looks_up =
-      let none : NoneBefore boore_atkinson _ = record { two = refl; three = refl; four = refl; five = refl } in
-      let checked = boore_atkinson_checked 700 7_600 0 T (record { 0 = 0 }) _ refl (boore_atkinson_last _ none refl) in
+      let none : limit_check (code_limits boore_atkinson 9) 700 0 7_600 0 ≡ Ok tt = refl in
+      let checked = boore_atkinson_checked 700 7_600 0 T (record { 0 = 0 }) _ refl
+      (boore_atkinson_last _ _ _ _ _ (record { 0 = 0 }) none refl) in
       subst (LooksUp 2 T) checked
       (by_boore_atkinson (boore_atkinson_place T) (boore_atkinson_in_table T, boore_atkinson_periods T))
 
@@ -175,23 +244,23 @@ looks_up model T = go (eqb model 1) (eqb model 2) refl refl
 
 -- ---- what they have shown
 
-none_is_not : {x : ℕ} → ◌≡◌ {A = Option ℕ} none (some x) → ⊥
+none_is_not : {x : ℕ} → ◌≡◌ {A = Option ℕ} None (Some x) → ⊥
 none_is_not e = let z : ◌≡◌ {A = ℕ} 0 1 = cc in omega arith
 
-some_is : {x y : ℕ} → ◌≡◌ {A = Option ℕ} (some x) (some y) → x ≡ y
+some_is : {x y : ℕ} → ◌≡◌ {A = Option ℕ} (Some x) (Some y) → x ≡ y
 some_is e = cc
 
 module _ (s : Scenario) where
   -- what an answer to a scenario that is accepted rests on
   pub record Based : Type 0 where
     pub rests : Basis
-    pub is : basis_of s ≡ K.Accepted rests
+    pub is : basis_of s ≡ Ok rests
     pub known : RestsOn s rests
 
-  by_rupture : refusal_of s ≡ 0 → s.model ≡ 1 → WithinBy idriss s → (d : Rupture) → s.rupture ≡ d → Based
+  by_rupture : refusal_of s ≡ 0 → s.model ≡ 1 → WithinBy idriss s → (d : Option RuptureDistance) → s.rupture ≡ d → Based
   unfolding basis_of
-  by_rupture a m w R.Absent e = absurd (none_is_not (sym (ap rupture_number e) ∙ w.reads))
-  by_rupture a m w (R.At d) e =
+  by_rupture a m w None e = absurd (none_is_not (sym (ap rupture_number e) ∙ w.reads))
+  by_rupture a m w (Some d) e =
       record {
         rests = B.Idriss d (place_by idriss idriss_row s.period);
         is = rw (m, e) refl;
@@ -202,11 +271,11 @@ module _ (s : Scenario) where
         };
       }
 
-  by_projection : refusal_of s ≡ 0 → s.model ≡ 2 → WithinBy boore_atkinson s → (d : Projection) →
+  by_projection : refusal_of s ≡ 0 → s.model ≡ 2 → WithinBy boore_atkinson s → (d : Option ProjectionDistance) →
       s.projection ≡ d → Based
   unfolding basis_of
-  by_projection a m w P.Absent e = absurd (none_is_not (sym (ap projection_number e) ∙ w.reads))
-  by_projection a m w (P.At d) e =
+  by_projection a m w None e = absurd (none_is_not (sym (ap projection_number e) ∙ w.reads))
+  by_projection a m w (Some d) e =
       record {
         rests = B.BooreAtkinson d (place_by boore_atkinson boore_atkinson_row s.period);
         is = rw (m, e) refl;
@@ -222,20 +291,24 @@ module _ (s : Scenario) where
       ⊎_elim (λ p. by_rupture a p.0 p.1 s.rupture refl)
       (λ p. by_projection a p.0 p.1 s.projection refl) (of_model s a)
 
-  pub passed : {b : Basis} → check_of s ≡ K.Accepted b → RestsOn s b
+  pub passed : {b : Basis} → check_of s ≡ Ok b → RestsOn s b
   unfolding check_of
   passed {b} e =
       ⊎_elim (λ p. let d = based p.0 in let same : d.rests ≡ b = cc in subst (RestsOn s) same d.known)
       (λ p. let z : ◌≡◌ {A = ℕ} 0 1 = cc in absurd (omega arith)) (unless_is (refusal_of s) e)
 
   -- the number of a check that fails is not 0
-  pub record Failed (k : ℕ) : Type 0 where
-    pub number : k ≡ refusal_of s
-    pub some : k ≡ 0 → ⊥
+  pub record Failed (e : Refusal) : Type 0 where
+    pub number : refusal_number e ≡ refusal_of s
+    pub reason : with_number (refusal_of s) ≡ e
+    pub some : refusal_of s ≡ 0 → ⊥
 
-  pub failed : {k : ℕ} → check_of s ≡ K.Refused k → Failed k
+  pub failed : {e : Refusal} → check_of s ≡ Err e → Failed e
   unfolding check_of
-  failed {k} e =
-      ⊎_elim (λ p. let d = based p.0 in let z : ◌≡◌ {A = ℕ} 0 1 = cc in absurd (omega arith))
-      (λ p. let same : k ≡ refusal_of s = cc in record { number = same; some = λ z. p.0 (sym same ∙ z) })
-      (unless_is (refusal_of s) e)
+  failed {e} p =
+      ⊎_elim (λ q. let d = based q.0 in let z : ◌≡◌ {A = ℕ} 0 1 = cc in absurd (omega arith))
+      (λ q.
+        let same : with_number (refusal_of s) ≡ e = cc in
+        let number = sym (ap refusal_number same) ∙ numbered (refusal_of s) q.0 (refusal_numbered s) in
+        record { number = number; reason = same; some = q.0 })
+      (unless_is (refusal_of s) p)

@@ -8,32 +8,31 @@ use lib.Dec.{eqb}
 use lib.ListN.{get_or}
 use Rattle.toolbox_theory.specs.Lists.{among}
 use Rattle.toolbox_theory.proofs.ListLaws.{or_right}
-use Rattle.scenario_theory.specs.declared.Lookup.{Lookup}
-use Rattle.scenario_theory.specs.declared.Lookup.TheVariants as L
+use Rattle.std.specs.Prelude.{Option, Some, None, Result, Ok, Err}
+use Rattle.scenario_theory.specs.declared.Place.{Place}
 use Rattle.scenario_theory.specs.declared.Place.TheVariants as P
+use Rattle.scenario_theory.specs.declared.Refusal.{Refusal}
+use Rattle.scenario_theory.specs.declared.Refusal.TheVariants as E
 use Rattle.scenario_theory.specs.declared.RowPeriods.{RowPeriods}
-use Rattle.scenario_theory.specs.declared.RowPeriods.TheVariants as R
 use Rattle.scenario_theory.specs.Checks.{◌when◌, unless_refused}
 use Rattle.scenario_theory.specs.Refusal.{Limits, idriss, boore_atkinson, beyond_periods}
 use Rattle.scenario_theory.specs.Neighbours.{has_row, neighbour_below, neighbour_above, idriss_printed}
 use Rattle.scenario_theory.specs.Neighbours.{row_periods_by}
 use Rattle.scenario_theory.specs.Rows.{BetweenRows, place_by, idriss_row, boore_atkinson_row, row_count}
-use Rattle.scenario_theory.specs.Rows.{found, idriss_place}
+use Rattle.scenario_theory.specs.Rows.{idriss_place}
 use Rattle.scenario_theory.specs.Rows.{boore_atkinson_place, periods_at, InTable}
 use Rattle.scenario_theory.proofs.RowLaws.{Listed, place, placed, between_rows, idriss_row_lem, boore_atkinson_row_lem}
 use Rattle.scenario_theory.proofs.RowLaws.{idriss_listed, boore_atkinson_listed, idriss_printed_lem}
 use Rattle.scenario_theory.proofs.RowLaws.{printed_itself, boore_atkinson_printed}
 
 -- of a look-up
-abbrev pub periods_found : List ℕ → Lookup → RowPeriods
-periods_found list (L.Row k) = periods_at list (P.Row k)
-periods_found list (L.Between k) = periods_at list (P.Between k)
-periods_found list L.Outside = R.Refused 6
+abbrev pub periods_found : List ℕ → Option Place → Result RowPeriods Refusal
+periods_found list (Some p) = Ok (periods_at list p)
+periods_found list None = Err E.Period
 
-abbrev pub Tabled : Lookup → Type 0
-Tabled (L.Row k) = InTable (P.Row k)
-Tabled (L.Between k) = InTable (P.Between k)
-Tabled L.Outside = Unit {0}
+abbrev pub Tabled : Option Place → Type 0
+Tabled (Some p) = InTable p
+Tabled None = Unit {0}
 
 module _ (first : ℕ) (m : Limits) (row : ℕ → ℕ) (l : Listed first m row)
     (few : (t : ℕ) → has_row m t ≡ true → row t < row_count) (t : ℕ) where
@@ -41,19 +40,19 @@ module _ (first : ℕ) (m : Limits) (row : ℕ → ℕ) (l : Listed first m row)
   tabled_at t e = or_right (eqb t 0) e
 
   -- what holds of the place by the definitions holds of that by counting
-  by_place : (K : Lookup → Type 0) → (beyond_periods t ≡ true → K L.Outside) →
-      (has_row m t ≡ true → beyond_periods t ≡ false → K (L.Row (row t))) →
+  by_place : (K : Option Place → Type 0) → (beyond_periods t ≡ true → K None) →
+      (has_row m t ≡ true → beyond_periods t ≡ false → K (Some (P.Row (row t)))) →
       (BetweenRows m row t → has_row m t ≡ false → beyond_periods t ≡ false →
-      K (L.Between (row (neighbour_below m t)))) → K (place first m row t)
+      K (Some (P.Between (row (neighbour_below m t))))) → K (place first m row t)
   by_place K out at between = rw (placed first m row l t) (outside (beyond_periods t) refl)
     where
       tabled : (b : Bool) → has_row m t ≡ b → beyond_periods t ≡ false →
-          K (found (cond b (P.Row (row t)) (P.Between (row (neighbour_below m t)))))
+          K (Some (cond b (P.Row (row t)) (P.Between (row (neighbour_below m t)))))
       tabled true e ok = at e ok
       tabled false e ok = between (between_rows first m row l t e ok) e ok
 
       outside : (b : Bool) → beyond_periods t ≡ b →
-          K (unless_refused (6 when b) (found (place_by m row t)) L.Outside)
+          K (unless_refused (6 when b) (Some (place_by m row t)) None)
       outside true e = out e
       outside false e = tabled (has_row m t) refl e
 

@@ -2,7 +2,7 @@
 use mathlib.Core.Path.{◌≡◌, refl, sym, subst}
 use mathlib.Core.Bool.{Bool, true, false, false≢true, true≢false, not, cond, ◌&&◌, ◌||◌}
 use mathlib.Core.Logic.{◌⊎◌, inl, inr, ⊎_elim}
-use mathlib.Core.Option.{Option, none, some}
+use Rattle.std.specs.Prelude.{Option, Some, None}
 use Prim.Native.Nat.{ℕ, ◌≤◌, ◌<◌}
 use native.Mathlib.Omega.{arith}
 use borrow.Author.Rules.{rules}
@@ -51,14 +51,14 @@ module _ (t : ℕ) where
 -- s has a distance that the model reads, and its fields are within the model's limits
 pub record WithinBy (m : Limits) (s : Scenario) : Type 0 where
   pub distance : ℕ
-  pub reads : m.reads s ≡ some distance
+  pub reads : m.reads s ≡ Some distance
   pub within : Within m s.magnitude distance s.velocity s.mechanism s.period
 
-stands : (o : Option ℕ) → is_absent o ≡ false → (x : ℕ) × (o ≡ some x)
-stands none e = absurd (true≢false e)
-stands (some x) e = (x, refl)
+stands : (o : Option ℕ) → is_absent o ≡ false → (x : ℕ) × (o ≡ Some x)
+stands None e = absurd (true≢false e)
+stands (Some x) e = (x, refl)
 
-pub within_at : (m : Limits) (s : Scenario) {d : ℕ} → m.reads s ≡ some d → refusal_by m s ≡ 0 →
+pub within_at : (m : Limits) (s : Scenario) {d : ℕ} → m.reads s ≡ Some d → refusal_by m s ≡ 0 →
     Within m s.magnitude d s.velocity s.mechanism s.period
 unfolding refusal_by
 within_at m s {d} reads e =
@@ -132,13 +132,13 @@ sizes s e =
 
 -- a number that stands is below k
 abbrev pub Below : ℕ → Option ℕ → Type 0
-Below k none = Unit {0}
-Below k (some x) = x < k
+Below k None = Unit {0}
+Below k (Some x) = x < k
 
 -- one that does not exceed another that stands
-nearer : {r k : ℕ} (p : Option ℕ) → r < k → exceeds p (some r) ≡ false → Below k p
-nearer none h e = tt
-nearer (some p) h e = omega (arith, ltb-false _ p e)
+nearer : {r k : ℕ} (p : Option ℕ) → r < k → exceeds p (Some r) ≡ false → Below k p
+nearer None h e = tt
+nearer (Some p) h e = omega (arith, ltb-false _ p e)
 
 -- the projection distance is a number of two bytes by either model: Boore and Atkinson read it, and it does not exceed
 -- what Idriss reads

@@ -13,14 +13,14 @@ use Rattle.toolbox_theory.specs.Lists.{among, count_below}
 use Rattle.toolbox_theory.proofs.Tests.{is_true, each, by_test, all_below, below}
 use Rattle.toolbox_theory.proofs.ListLaws.{Missed, earlier, missed, neither, all, all_at, rising, Around, around}
 use Rattle.toolbox_theory.proofs.ListLaws.{among_at, between_places, greatest_below, least_above}
-use Rattle.scenario_theory.specs.declared.Lookup.{Lookup}
-use Rattle.scenario_theory.specs.declared.Lookup.TheVariants as L
+use Rattle.std.specs.Prelude.{Option, Some, None}
+use Rattle.scenario_theory.specs.declared.Place.{Place}
 use Rattle.scenario_theory.specs.declared.Place.TheVariants as P
 use Rattle.scenario_theory.specs.Checks.{◌when◌, unless_refused}
 use Rattle.scenario_theory.specs.Refusal.{Limits, idriss, boore_atkinson, answered_periods, beyond_periods}
 use Rattle.scenario_theory.specs.Neighbours.{has_row, neighbour_below, neighbour_above, idriss_printed}
 use Rattle.scenario_theory.specs.Rows.{BetweenRows, place_by, idriss_row, boore_atkinson_row, row_count}
-use Rattle.scenario_theory.specs.Rows.{found, place_among}
+use Rattle.scenario_theory.specs.Rows.{place_among}
 use Rattle.scenario_theory.proofs.RefusalLaws.{answered, not_answered}
 
 -- ---- the row of a tabled period
@@ -37,15 +37,15 @@ boore_atkinson_row_lem period e =
 -- ---- the place of a period
 
 -- a look-up gave row k
-abbrev is_row : ℕ → Lookup → Bool
-is_row k (L.Row j) = eqb j k
-is_row k (L.Between j) = false
-is_row k L.Outside = false
+abbrev is_row : ℕ → Option Place → Bool
+is_row k (Some (P.Row j)) = eqb j k
+is_row k (Some (P.Between j)) = false
+is_row k None = false
 
-row_is : (k : ℕ) (c : Lookup) → T (is_row k c) → c ≡ L.Row k
-row_is k (L.Row j) t = ap L.Row (eqb→eq j k t)
-row_is k (L.Between j) t = absurd t
-row_is k L.Outside t = absurd t
+row_is : (k : ℕ) (c : Option Place) → T (is_row k c) → c ≡ Some (P.Row k)
+row_is k (Some (P.Row j)) t = ap (λ i. Some (P.Row i)) (eqb→eq j k t)
+row_is k (Some (P.Between j)) t = absurd t
+row_is k None t = absurd t
 
 -- in the tables of a model with the limits m, the first of whose periods has row `first`, and t row `row t`
 module _ (first : ℕ) (m : Limits) (row : ℕ → ℕ) where
@@ -53,8 +53,8 @@ module _ (first : ℕ) (m : Limits) (row : ℕ → ℕ) where
   count t = count_below m.periods t
 
   -- by counting
-  abbrev pub place : ℕ → Lookup
-  place t = cond (eqb t 0) (L.Row 0) (place_among first m.periods t)
+  abbrev pub place : ℕ → Option Place
+  place t = cond (eqb t 0) (Some (P.Row 0)) (place_among first m.periods t)
 
   -- what is computed once of the list
   pub record Listed : Type 0 where
@@ -141,7 +141,7 @@ module _ (first : ℕ) (m : Limits) (row : ℕ → ℕ) where
 
     -- and the place by counting is that of the definitions
     abbrev Placed : Bool → Type 0
-    Placed outside = place t ≡ unless_refused (6 when outside) (found (place_by m row t)) L.Outside
+    Placed outside = place t ≡ unless_refused (6 when outside) (Some (place_by m row t)) None
 
     untabled : (outside : Bool) → has_row m t ≡ false → beyond_periods t ≡ outside → Placed outside
     unfolding place_among
@@ -151,11 +151,11 @@ module _ (first : ℕ) (m : Limits) (row : ℕ → ℕ) where
         let before = below_is none e in
         let k = number (n - 1) (omega (arith, h)) in
         rw (not_in.0, not_in.1, lt-ltb 0 n h.0, lt-ltb n (length m.periods) h.1, before, k)
-        (ap L.Between (omega (arith, h.0)))
+        (ap (λ i. Some (P.Between i)) (omega (arith, h.0)))
     untabled true none e =
         let not_in = neither (eqb t 0) (among m.periods t) none in
         rw (not_in.0, not_in.1)
-        (by_test (ltb 0 n && ltb n (length m.periods)) (λ c. c ≡ L.Outside)
+        (by_test (ltb 0 n && ltb n (length m.periods)) (λ c. c ≡ None)
         (λ q. absurd (outside_inside e (each (ltb 0 n) (ltb n (length m.periods)) (ltb→lt _ _) (ltb→lt _ _) q)))
         (λ _. refl))
 
@@ -171,10 +171,10 @@ module _ (first : ℕ) (m : Limits) (row : ℕ → ℕ) where
     placed = by_tabled (has_row m t) refl
 
   -- the place of a period that is neither 0 nor in the list
-  pub in_no_row : (t : ℕ) {n : ℕ} {c : Lookup} → Missed (Unit {0}) (0 ∷ m.periods) t →
+  pub in_no_row : (t : ℕ) {n : ℕ} {c : Option Place} → Missed (Unit {0}) (0 ∷ m.periods) t →
       n ≡ count_below m.periods t →
-      c ≡ cond (ltb 0 n && ltb n (length m.periods)) (L.Between (first + n - 1)) L.Outside →
-      c ≡ cond (eqb t 0) (L.Row 0) (place_among first m.periods t)
+      c ≡ cond (ltb 0 n && ltb n (length m.periods)) (Some (P.Between (first + n - 1))) None →
+      c ≡ cond (eqb t 0) (Some (P.Row 0)) (place_among first m.periods t)
   unfolding place_among
   in_no_row t other count e =
       let before = Unit {0} × (t ≡ 0 → ⊥) in

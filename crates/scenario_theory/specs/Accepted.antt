@@ -1,29 +1,26 @@
 -- What the checks of a scenario come to, for the code alone: the number of the first that it fails, or what an answer
 -- rests on.
-use Rattle.std.specs.Prelude.{◌≡◌, true, false, cond, ℕ, ◌≤◌, eqb}
-use Rattle.std.proofs.Math.Option.{some}
+use Rattle.std.specs.Prelude.{◌≡◌, true, false, not, cond, List, [], ◌∷◌, ℕ, ◌≤◌, eqb, Option, Some, None}
+use Rattle.std.specs.Prelude.{Result, Ok, Err}
 use Rattle.toolbox_theory.specs.Lists.{among}
 use Rattle.scenario_theory.specs.declared.Scenario.{Scenario}
-use Rattle.scenario_theory.specs.declared.Rupture.{Rupture}
-use Rattle.scenario_theory.specs.declared.Rupture.TheVariants as R
-use Rattle.scenario_theory.specs.declared.Projection.{Projection}
-use Rattle.scenario_theory.specs.declared.Projection.TheVariants as P
+use Rattle.scenario_theory.specs.declared.RuptureDistance.{RuptureDistance}
+use Rattle.scenario_theory.specs.declared.ProjectionDistance.{ProjectionDistance}
+use Rattle.scenario_theory.specs.declared.ModelLimits.{ModelLimits}
 use Rattle.scenario_theory.specs.declared.Place.{Place}
-use Rattle.scenario_theory.specs.declared.Place.TheVariants as Q
-use Rattle.scenario_theory.specs.declared.Lookup.{Lookup}
-use Rattle.scenario_theory.specs.declared.Lookup.TheVariants as L
 use Rattle.scenario_theory.specs.declared.Basis.{Basis}
 use Rattle.scenario_theory.specs.declared.Basis.TheVariants as B
-use Rattle.scenario_theory.specs.declared.Check.{Check}
-use Rattle.scenario_theory.specs.declared.Check.TheVariants as K
+use Rattle.scenario_theory.specs.declared.Refusal.{Refusal}
+use Rattle.scenario_theory.specs.declared.Refusal.TheVariants as E
 use Rattle.scenario_theory.specs.declared.RowPeriods.{RowPeriods}
-use Rattle.scenario_theory.specs.declared.RowPeriods.TheVariants as W
-use Rattle.scenario_theory.specs.Checks.{unless_refused}
+use Rattle.scenario_theory.specs.Checks.{◌to◌, beyond, ◌when◌, ◌otherwise◌, unless_refused}
 use Rattle.scenario_theory.specs.Refusal.{Limits, idriss, boore_atkinson, beyond_periods, refusal_by, refusal_of}
+use Rattle.scenario_theory.specs.Numbers.{with_number}
 use Rattle.scenario_theory.specs.Rows.{idriss_row, boore_atkinson_row, place_by, row_list, periods_at, InTable}
 
 -- the scenario that has the fields
-abbrev pub scenario_with : ℕ → ℕ → Rupture → ℕ → ℕ → ℕ → Projection → Scenario
+abbrev pub scenario_with : 
+    ℕ → ℕ → Option RuptureDistance → ℕ → ℕ → ℕ → Option ProjectionDistance → Scenario
 scenario_with model magnitude rupture velocity mechanism period projection =
     record {
       model = model;
@@ -37,48 +34,70 @@ scenario_with model magnitude rupture velocity mechanism period projection =
 
 -- ---- the checks
 
+-- the limits of a model as the code has them, with the mechanism beside 0 to 3
+abbrev pub code_limits : Limits → ℕ → ModelLimits
+code_limits m mechanism =
+    record {
+      magnitude = (m.magnitude.low, m.magnitude.high);
+      distance = m.distance.high;
+      velocity = (m.velocity.low, m.velocity.high);
+      mechanism = mechanism;
+    }
+
+-- 2 to 5 by such limits
+unfoldable pub limit_number : ModelLimits → ℕ → ℕ → ℕ → ℕ → ℕ
+limit_number l M R Vs mechanism =
+    2 when beyond (l.magnitude.0 to l.magnitude.1) M otherwise
+    3 when beyond (0 to l.distance) R otherwise
+    4 when beyond (l.velocity.0 to l.velocity.1) Vs otherwise
+    5 when not (among (0 ∷ 1 ∷ 2 ∷ 3 ∷ l.mechanism ∷ []) mechanism)
+
+unfoldable pub limit_check : ModelLimits → ℕ → ℕ → ℕ → ℕ → Result (Unit {0}) Refusal
+limit_check l M R Vs mechanism =
+    let k : ℕ = limit_number l M R Vs mechanism in
+    unless_refused k (Ok tt) (Err (with_number k))
+
 -- 2 to 6 by the limits of a model, with what an answer rests on by the place of the period
-unfoldable pub check_by : Limits → (ℕ → ℕ) → (Place → Basis) → Scenario → Check
+unfoldable pub check_by : Limits → (ℕ → ℕ) → (Place → Basis) → Scenario → Result Basis Refusal
 check_by m row basis s =
-    unless_refused (refusal_by m s) (K.Accepted (basis (place_by m row s.period))) (K.Refused (refusal_by m s))
+    unless_refused (refusal_by m s) (Ok (basis (place_by m row s.period))) (Err (with_number (refusal_by m s)))
 
 -- the last of them, by a look-up
-abbrev pub based_on : (Place → Basis) → Lookup → Check
-based_on basis (L.Row k) = K.Accepted (basis (Q.Row k))
-based_on basis (L.Between k) = K.Accepted (basis (Q.Between k))
-based_on basis L.Outside = K.Refused 6
+abbrev pub based_on : (Place → Basis) → Option Place → Result Basis Refusal
+based_on basis (Some p) = Ok (basis p)
+based_on basis None = Err E.Period
 
 -- what an answer at a period rests on, by each model: there is nothing where its distance is absent, as 9 says
-abbrev pub on_rupture : Rupture → ℕ → Check
-on_rupture R.Absent T = K.Refused 9
-on_rupture (R.At d) T = K.Accepted (B.Idriss d (place_by idriss idriss_row T))
+abbrev pub on_rupture : Option RuptureDistance → ℕ → Result Basis Refusal
+on_rupture None T = Err E.MissingField
+on_rupture (Some d) T = Ok (B.Idriss d (place_by idriss idriss_row T))
 
-abbrev pub on_projection : Projection → ℕ → Check
-on_projection P.Absent T = K.Refused 9
-on_projection (P.At d) T = K.Accepted (B.BooreAtkinson d (place_by boore_atkinson boore_atkinson_row T))
+abbrev pub on_projection : Option ProjectionDistance → ℕ → Result Basis Refusal
+on_projection None T = Err E.MissingField
+on_projection (Some d) T = Ok (B.BooreAtkinson d (place_by boore_atkinson boore_atkinson_row T))
 
 -- an answer to s, whose model is 1, Idriss, or 2, Boore-Atkinson
-unfoldable pub basis_of : Scenario → Check
+unfoldable pub basis_of : Scenario → Result Basis Refusal
 basis_of s = cond (eqb s.model 1) (on_rupture s.rupture s.period) (on_projection s.projection s.period)
 
 -- 9 for the distance, 13, and 1 to 6, with what the answer rests on
-unfoldable pub check_of : Scenario → Check
-check_of s = unless_refused (refusal_of s) (basis_of s) (K.Refused (refusal_of s))
+unfoldable pub check_of : Scenario → Result Basis Refusal
+check_of s = unless_refused (refusal_of s) (basis_of s) (Err (with_number (refusal_of s)))
 
 -- the periods of the rows that they have found, and that the tables have these
-abbrev pub periods_on : Check → RowPeriods
-periods_on (K.Accepted (B.Idriss d p)) = periods_at (row_list 1) p
-periods_on (K.Accepted (B.BooreAtkinson d p)) = periods_at (row_list 2) p
-periods_on (K.Refused k) = W.Refused k
+abbrev pub periods_on : Result Basis Refusal → Result RowPeriods Refusal
+periods_on (Ok (B.Idriss d p)) = Ok (periods_at (row_list 1) p)
+periods_on (Ok (B.BooreAtkinson d p)) = Ok (periods_at (row_list 2) p)
+periods_on (Err e) = Err e
 
-abbrev pub InTables : Check → Type 0
-InTables (K.Accepted (B.Idriss d p)) = InTable p
-InTables (K.Accepted (B.BooreAtkinson d p)) = InTable p
-InTables (K.Refused k) = Unit {0}
+abbrev pub InTables : Result Basis Refusal → Type 0
+InTables (Ok (B.Idriss d p)) = InTable p
+InTables (Ok (B.BooreAtkinson d p)) = InTable p
+InTables (Err e) = Unit {0}
 
 -- a scenario that is accepted but for its model and its period
 abbrev pub plain_scenario : ℕ → ℕ → Scenario
-plain_scenario model T = scenario_with model 700 (R.At (record { 0 = 0 })) 7_600 0 T (P.At (record { 0 = 0 }))
+plain_scenario model T = scenario_with model 700 (Some (record { 0 = 0 })) 7_600 0 T (Some (record { 0 = 0 }))
 
 -- ---- what is known where they pass
 
@@ -104,8 +123,8 @@ PlacedOn M Vs mechanism T (B.BooreAtkinson d p) = Placed boore_atkinson boore_at
 
 -- b has the model of s, and the distance that this reads
 abbrev pub BasisIn : Scenario → Basis → Type 0
-BasisIn s (B.Idriss d p) = (s.model ≡ 1) × (idriss.reads s ≡ some d.0)
-BasisIn s (B.BooreAtkinson d p) = (s.model ≡ 2) × (boore_atkinson.reads s ≡ some d.0)
+BasisIn s (B.Idriss d p) = (s.model ≡ 1) × (idriss.reads s ≡ Some d.0)
+BasisIn s (B.BooreAtkinson d p) = (s.model ≡ 2) × (boore_atkinson.reads s ≡ Some d.0)
 
 -- s is accepted, and an answer to it rests on b
 pub record RestsOn (s : Scenario) (b : Basis) : Type 0 where

@@ -1,7 +1,6 @@
 -- Which scenarios each model takes, and the number of the first check that a scenario fails. Document 01, 'The
 -- scenario' and 'What is turned away'; document 02, W-201, for the period, and W-202 for the distances.
-use Rattle.std.specs.Prelude.{Bool, false, not, cond, ◌&&◌, ◌||◌, List, [], ◌∷◌, ℕ, eqb}
-use Rattle.std.proofs.Math.Option.{Option}
+use Rattle.std.specs.Prelude.{Bool, false, not, cond, ◌&&◌, ◌||◌, List, [], ◌∷◌, ℕ, eqb, Option}
 use Rattle.toolbox_theory.specs.Lists.{among, ◌without◌}
 use Rattle.scenario_theory.specs.declared.Scenario.{Scenario}
 use Rattle.scenario_theory.specs.Checks.{Range, ◌to◌, beyond, ◌when◌, ◌otherwise◌}

@@ -1,12 +1,9 @@
 -- The rows of the tables by number, for the code alone: the definitions take the row that is printed with a period.
-use Rattle.std.specs.Prelude.{◌≡◌, true, cond, ◌&&◌, List, ◌∷◌, ℕ, ◌+◌, ◌-◌, ◌<◌, eqb, ltb, length, get_or}
+use Rattle.std.specs.Prelude.{◌≡◌, true, cond, ◌&&◌, List, ◌∷◌, ℕ, ◌+◌, ◌-◌, ◌<◌, eqb, ltb, length, get_or, Option, Some, None}
 use Rattle.toolbox_theory.specs.Lists.{among, place_in, count_below}
 use Rattle.scenario_theory.specs.declared.Place.{Place}
 use Rattle.scenario_theory.specs.declared.Place.TheVariants as P
-use Rattle.scenario_theory.specs.declared.Lookup.{Lookup}
-use Rattle.scenario_theory.specs.declared.Lookup.TheVariants as L
 use Rattle.scenario_theory.specs.declared.RowPeriods.{RowPeriods}
-use Rattle.scenario_theory.specs.declared.RowPeriods.TheVariants as R
 use Rattle.scenario_theory.specs.Refusal.{Limits, idriss, boore_atkinson}
 use Rattle.scenario_theory.specs.Neighbours.{has_row, neighbour_below, neighbour_above, idriss_printed}
 
@@ -37,24 +34,19 @@ pub record BetweenRows (m : Limits) (row : ℕ → ℕ) (T : ℕ) : Type 0 where
 
 -- ---- the same by counting, as the code has it
 
--- a look-up that finds the place
-abbrev pub found : Place → Lookup
-found (P.Row k) = L.Row k
-found (P.Between k) = L.Between k
-
--- among the periods of a list that rises, the first of which has row `first`
-unfoldable pub place_among : ℕ → List ℕ → ℕ → Lookup
+-- among the periods of a list that rises, the first of which has row `first`; nowhere before all of them or after
+unfoldable pub place_among : ℕ → List ℕ → ℕ → Option Place
 place_among first periods T =
     let n : ℕ = count_below periods T in
-    cond (among periods T) (L.Row (first + n))
-    (cond (ltb 0 n && ltb n (length periods)) (L.Between (first + n - 1)) L.Outside)
+    cond (among periods T) (Some (P.Row (first + n)))
+    (cond (ltb 0 n && ltb n (length periods)) (Some (P.Between (first + n - 1))) None)
 
-unfoldable pub idriss_place : ℕ → Lookup
-idriss_place T = cond (eqb T 0) (L.Row 0) (place_among 0 idriss.periods T)
+unfoldable pub idriss_place : ℕ → Option Place
+idriss_place T = cond (eqb T 0) (Some (P.Row 0)) (place_among 0 idriss.periods T)
 
 -- the row PGA, row 0, is no neighbour of any period
-unfoldable pub boore_atkinson_place : ℕ → Lookup
-boore_atkinson_place T = cond (eqb T 0) (L.Row 0) (place_among 1 boore_atkinson.periods T)
+unfoldable pub boore_atkinson_place : ℕ → Option Place
+boore_atkinson_place T = cond (eqb T 0) (Some (P.Row 0)) (place_among 1 boore_atkinson.periods T)
 
 -- the periods of the rows of Idriss's tables for the model 1, of Boore-Atkinson's for any other
 abbrev pub row_list : ℕ → List ℕ
@@ -62,8 +54,8 @@ row_list model = cond (eqb model 1) idriss.periods (0 ∷ boore_atkinson.periods
 
 -- the periods of the rows of a place, by a list of the periods of the rows; and that the list has them
 abbrev pub periods_at : List ℕ → Place → RowPeriods
-periods_at list (P.Row k) = R.Rows (get_or list k 0) (get_or list k 0)
-periods_at list (P.Between k) = R.Rows (get_or list k 0) (get_or list (k + 1) 0)
+periods_at list (P.Row k) = record { lower = get_or list k 0; upper = get_or list k 0 }
+periods_at list (P.Between k) = record { lower = get_or list k 0; upper = get_or list (k + 1) 0 }
 
 abbrev pub InTable : Place → Type 0
 InTable (P.Row k) = k < row_count

@@ -2,6 +2,9 @@
 // is no code.
 #![tactic(auto)]
 
+ghost use Rattle.std.specs.Prelude.{◌≡◌};
+ghost use Rattle.scenario_theory.specs.Numbers.{refusal_number};
+
 // In 0.01 km, to the rupture: the distance that Idriss reads.
 #[derive(Clone, Copy)]
 pub struct RuptureDistance(pub u16);
@@ -10,34 +13,31 @@ pub struct RuptureDistance(pub u16);
 #[derive(Clone, Copy)]
 pub struct ProjectionDistance(pub u16);
 
-// Either may be absent, and has no number then.
-#[derive(Clone, Copy)]
-pub enum Rupture {
-    Absent,
-    At(RuptureDistance),
-}
-
-#[derive(Clone, Copy)]
-pub enum Projection {
-    Absent,
-    At(ProjectionDistance),
-}
-
-// The fields of document 01, 'The scenario', as whole numbers.
+// The fields of document 01, 'The scenario', as whole numbers. Either distance may be absent, and has no number then. The
+// model and the mechanism are the caller's numbers, any of which is answered or refused.
 #[derive(Clone, Copy)]
 pub struct Scenario {
     // 1 Idriss, 2 Boore-Atkinson
     pub model: u8,
     // in 0.01
     pub magnitude: u16,
-    pub rupture: Rupture,
+    pub rupture: Option<RuptureDistance>,
     // V_S30, in 0.1 m/s
     pub velocity: u16,
     // 0 strike-slip, 1 normal, 2 reverse, 3 reverse oblique, 4 other oblique, 9 unspecified
     pub mechanism: u8,
     // in 0.001 s; 0 is peak acceleration
     pub period: u16,
-    pub projection: Projection,
+    pub projection: Option<ProjectionDistance>,
+}
+
+// What a model takes: from the first number to the second, a distance from 0 on, and the mechanisms 0 to 3 and one other.
+#[derive(Clone, Copy)]
+pub struct ModelLimits {
+    pub magnitude: (u16, u16),
+    pub distance: u16,
+    pub velocity: (u16, u16),
+    pub mechanism: u8,
 }
 
 // Where a period that is answered stands in the tables of a model: it has row k, or lies between rows k and k + 1.
@@ -47,14 +47,6 @@ pub enum Place {
     Between(usize),
 }
 
-// What a look-up of a period in the tables of a model finds: a place, or none.
-#[derive(Clone, Copy)]
-pub enum Lookup {
-    Row(usize),
-    Between(usize),
-    Outside,
-}
-
 // What an answer rests on: the model, the distance that it reads, and the place of the period in its tables.
 #[derive(Clone, Copy)]
 pub enum Basis {
@@ -62,17 +54,64 @@ pub enum Basis {
     BooreAtkinson(ProjectionDistance, Place),
 }
 
-// What all checks come to: what the answer rests on, or the number of the first that fails.
-#[derive(Clone, Copy)]
-pub enum Check {
-    Accepted(Basis),
-    Refused(u8),
+// Why a scenario, its record or a sheet of them is turned away; the numbers are document 01's, 'What is turned away', and
+// document 02's, W-202, W-204 and W-206.
+#[derive(Clone, Copy, PartialEq, Eq)]
+pub enum Refusal {
+    // 1 to 6: it is none of the two, or it is beyond the model's limits
+    Model,
+    Magnitude,
+    Distance,
+    Velocity,
+    Mechanism,
+    Period,
+    // 7: the bytes end before the record does
+    Truncated,
+    // 8: the map has a bit that no field has
+    ReservedBit,
+    // 9: a field without which there is no scenario is missing, or the distance that the model reads
+    MissingField,
+    // 10: the map has no bit
+    EmptyMap,
+    // 11: a field is written with the number that it has where it is absent
+    DefaultWritten,
+    // 12: the lent bytes are fewer than the record's
+    BufferTooShort,
+    // 13: the surface projection is farther than the rupture
+    ProjectionExceedsRupture,
+    // 14: there are more than 64
+    TooManyScenarios,
+    // 15: no scenario of the sheet is accepted
+    NoneAccepted,
 }
 
-// The periods of the two rows that a median rests on, the lower and the upper, equal where the period has a row of its
-// own; or the number with which the model or the period is turned away.
+impl From<Refusal> for u8 {
+    ghost from_gives = { λ e k. k ≡ refusal_number e };
+
+    fn from(e: Refusal) -> u8 {
+        match e {
+            Refusal::Model => 1,
+            Refusal::Magnitude => 2,
+            Refusal::Distance => 3,
+            Refusal::Velocity => 4,
+            Refusal::Mechanism => 5,
+            Refusal::Period => 6,
+            Refusal::Truncated => 7,
+            Refusal::ReservedBit => 8,
+            Refusal::MissingField => 9,
+            Refusal::EmptyMap => 10,
+            Refusal::DefaultWritten => 11,
+            Refusal::BufferTooShort => 12,
+            Refusal::ProjectionExceedsRupture => 13,
+            Refusal::TooManyScenarios => 14,
+            Refusal::NoneAccepted => 15,
+        }
+    }
+}
+
+// The periods of the two rows that a median rests on, equal where the period has a row of its own.
 #[derive(Clone, Copy)]
-pub enum RowPeriods {
-    Rows(u16, u16),
-    Refused(u8),
+pub struct RowPeriods {
+    pub lower: u16,
+    pub upper: u16,
 }

@@ -3,3 +3,4 @@ pub mod Tests
 pub mod ListLaws
 pub mod Places
 pub mod Found
+pub mod Results
