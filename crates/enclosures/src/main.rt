@@ -5,7 +5,7 @@
 ghost use Rattle.std.specs.Prelude.{length};
 ghost use Rattle.enclosures_theory.specs.Transfers.{ReadInto, WrittenOf};
 
-use enclosures_theory::Transfer;
+use enclosures_theory::{Failed, Transfer};
 use error_line::put_error;
 use page_output::put_output;
 use std::io::{Read, Write};
@@ -16,40 +16,34 @@ const PAGE_MOST: usize = 75_849;
 
 const ERROR_MOST: usize = 92;
 
-// Reads until the input ends or buf is full.
+// Reads until the input ends or buf is full. Neither `read_exact` nor `read_to_end` says how far a read that fails came.
 fn read_all<R: Read>(input: &mut R, buf: &mut [u8]) -> Transfer
     ensures { ReadInto (length buf.old) result }
 {
     let mut done: usize = 0;
     while done < buf.len() {
-        let n = match input.read(&mut buf[done..]) {
-            Ok(n) => n,
-            Err(_) => return Transfer::Failed(done),
-        };
+        let n = input.read(&mut buf[done..]).map_err(|_| Failed(done))?;
         if n == 0 {
-            return Transfer::Complete(done);
+            break;
         }
         done += n;
     }
-    Transfer::Complete(done)
+    Ok(done)
 }
 
-// Writes all of buf, each time from where the last write stopped.
+// Writes all of buf, each time from where the last write stopped. `write_all` does not say how far a write that fails came.
 fn write_all<W: Write>(output: &mut W, buf: &[u8]) -> Transfer
     ensures { WrittenOf (length buf.now) result }
 {
     let mut done: usize = 0;
     while done < buf.len() {
-        let put = match output.write(&buf[done..]) {
-            Ok(n) => n,
-            Err(_) => return Transfer::Failed(done),
-        };
+        let put = output.write(&buf[done..]).map_err(|_| Failed(done))?;
         if put < 1 {
-            return Transfer::Failed(done);
+            return Err(Failed(done));
         }
         done += put;
     }
-    Transfer::Complete(done)
+    Ok(done)
 }
 
 fn main(rt: HostRuntime) {
@@ -60,5 +54,6 @@ fn main(rt: HostRuntime) {
     let n = put_output(got, &bytes, &mut page);
     let put = write_all(&mut rt.stdout(), &page[..n]);
     let m = put_error(got, put, n, &mut error);
-    write_all(&mut rt.stderr(), &error[..m]);
+    // Where this fails, too, there is nowhere left to say so.
+    let _ = write_all(&mut rt.stderr(), &error[..m]);
 }

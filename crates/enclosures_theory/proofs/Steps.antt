@@ -5,10 +5,11 @@ use Prim.Native.Nat.{ℕ, ◌+◌, ◌*◌, ◌-◌, ◌≤◌, ◌<◌}
 use native.Mathlib.Omega.{arith}
 use lib.ListN.{length, drop, length-append, length-drop}
 use Rattle.record_theory.proofs.Laws.{read_size}
-use Rattle.engine_theory.specs.declared.Answer.{Answer}
-use Rattle.engine_theory.specs.declared.Answer.TheVariants as A
+use lib.IntN.{ℤ}
+use Rattle.std.specs.Prelude.{Ok, Err}
+use Rattle.scenario_theory.specs.declared.Refusal.{Refusal}
+use Rattle.engine_theory.specs.Promise.{Answer}
 use Rattle.engine_theory.specs.declared.Enclosure.{Enclosure}
-use Rattle.engine_theory.specs.declared.NextAnswer.TheVariants as N
 use Rattle.engine_theory.specs.Evaluation.{next_of}
 use Rattle.engine_theory.proofs.RecordLaws.{next_read, next_not_read}
 use Rattle.report_theory.specs.Lines.{line_of, last_line_of}
@@ -29,7 +30,7 @@ pub last_ended_most : (count : ℕ) → length (ended (last_line_of count)) ≤ 
 last_ended_most count = omega (arith, last_line_most count, length-append (last_line_of count) (10 ∷ []))
 
 -- a record that is read takes six bytes or more of those that are left
-pub taken : (rest : List ℕ) {n : ℕ} {a : Enclosure} → next_of rest ≡ N.Enclosed a n → (6 ≤ n) × (n ≤ length rest)
+pub taken : (rest : List ℕ) {n : ℕ} {a : Enclosure ℤ} → next_of rest ≡ Ok (a, n) → (6 ≤ n) × (n ≤ length rest)
 taken rest e = read_size rest _ _ (next_read rest e).read
 
 module _ {front s put rest : List ℕ} {count : ℕ} (g : Going front s put rest count) (some : 0 < length rest) where
@@ -37,27 +38,28 @@ module _ {front s put rest : List ℕ} {count : ℕ} (g : Going front s put rest
   pub has_room : length s ≤ bytes_taken → length put + line_most ≤ length front + line_most * lines_most
   has_room most = omega arith
 
-  pub read_step : {put' : List ℕ} {n : ℕ} {a : Enclosure} → next_of rest ≡ N.Enclosed a n →
-      put' ≡ put ++ ended (line_of (count + 1) (A.Enclosed a)) → Going front s put' (drop n rest) (count + 1)
-  read_step {n = n} {a} e more =
+  pub read_step : {put' rest' : List ℕ} {n : ℕ} {a : Enclosure ℤ} → next_of rest ≡ Ok (a, n) → rest' ≡ drop n rest →
+      put' ≡ put ++ ended (line_of (count + 1) (Ok a)) → Going front s put' rest' (count + 1)
+  read_step {n = n} {a} e left more =
       let r = next_read rest e in
       let size = taken rest e in
       let line = one_read count rest _ n some r.read in
       record {
-        lines = omega (arith, length-drop n rest);
-        size = rw (more, length-append) (omega (arith, ended_most (count + 1) (A.Enclosed a)));
-        bytes = rw (more, append_assoc, r.answer, ← line) g.bytes;
+        lines = rw left (omega (arith, length-drop n rest));
+        size = rw (more, length-append) (omega (arith, ended_most (count + 1) (Ok a)));
+        bytes = rw (more, left, append_assoc, r.answer, ← line) g.bytes;
       }
 
-  pub refused_step : {put' : List ℕ} {k : ℕ} → length s ≤ bytes_taken → next_of rest ≡ N.Refused k →
-      put' ≡ put ++ ended (line_of (count + 1) (A.Refused k)) → Gone front s (count + 1) put'
-  refused_step {k = k} most e more =
-      let line = one_refused count rest k some (next_not_read rest e) in
+  pub refused_step : {put' : List ℕ} {r : Refusal} → length s ≤ bytes_taken → next_of rest ≡ Err r →
+      put' ≡ put ++ ended (line_of (count + 1) (Err r)) → Gone front s (count + 1) put'
+  refused_step {r = r} most e more =
+      let line = one_refused count rest r some (next_not_read rest e) in
       record {
         bytes = rw (more, append_assoc, ← line) g.bytes;
-        size = rw (more, length-append) (omega (arith, ended_most (count + 1) (A.Refused k)));
+        size = rw (more, length-append) (omega (arith, ended_most (count + 1) (Err r)));
       }
 
-pub end_step : {front s put : List ℕ} {count : ℕ} → Going front s put [] count → length s ≤ bytes_taken →
-    Gone front s count put
-end_step {count = count} g most = record { bytes = rw lines_end at g.bytes; size = omega arith }
+pub end_step : {front s put rest : List ℕ} {count : ℕ} → Going front s put rest count → length rest ≡ 0 →
+    length s ≤ bytes_taken → Gone front s count put
+end_step {rest = []} g none most = record { bytes = rw lines_end at g.bytes; size = omega arith }
+end_step {rest = b ∷ rest} g none most = absurd (omega (arith, none))

@@ -10,7 +10,7 @@ ghost use Rattle.enclosures_theory.specs.Steps.{Gone};
 
 use arrayvec::ArrayVec;
 use decimal::put_whole;
-use engine_theory::{Answer, NextAnswer};
+use engine_theory::Answer;
 use error_line::push_text;
 use report::push_line;
 use report_end::push_last_line;
@@ -47,12 +47,12 @@ fn push_answers(page: &mut Page, s: &[u8]) -> u64
     while !rest.is_empty() {
         count += 1;
         match engine::answer_next(rest) {
-            NextAnswer::Enclosed(e, n) => {
-                push_answer(page, count, Answer::Enclosed(e));
+            Ok((e, n)) => {
+                push_answer(page, count, Ok(e));
                 rest = &rest[n..];
             }
-            NextAnswer::Refused(k) => {
-                push_answer(page, count, Answer::Refused(k));
+            Err(refusal) => {
+                push_answer(page, count, Err(refusal));
                 return count;
             }
         }

@@ -40,15 +40,15 @@ pub fn push_line<const N: usize>(page: &mut ArrayVec<u8, N>, position: u64, a: A
     push_decimal(page, position);
     page.push(b' ');
     match a {
-        Answer::Enclosed(e) => {
+        Ok(e) => {
             page.push(b'E');
             push_ends(page, e.median);
             push_ends(page, e.sigma);
         }
-        Answer::Refused(k) => {
+        Err(refusal) => {
             page.push(b'R');
             page.push(b' ');
-            push_decimal(page, k as u64);
+            push_decimal(page, u8::from(refusal) as u64);
         }
     }
 }

@@ -11,8 +11,10 @@ use lib.IntN.{ℤ, pos, nat_abs}
 use lib.Signed.{lt_z}
 use Rattle.interval_theory.specs.declared.Ends.{Ends}
 use Rattle.engine_theory.specs.declared.Enclosure.{Enclosure}
-use Rattle.engine_theory.specs.declared.Answer.{Answer}
-use Rattle.engine_theory.specs.declared.Answer.TheVariants as A
+use Rattle.engine_theory.specs.Promise.{Answer}
+use Rattle.std.specs.Prelude.{Ok, Err}
+use Rattle.scenario_theory.specs.declared.Refusal.{Refusal}
+use Rattle.scenario_theory.specs.Numbers.{refusal_number}
 use Rattle.report_theory.specs.Text.{decimal, signed_decimal, spaced}
 use Rattle.report_theory.specs.Lines.{line_of, last_line_of, length_on, bytes_after}
 use Rattle.report_theory.specs.Steps.{ends_bytes}
@@ -20,16 +22,16 @@ use Rattle.report_theory.proofs.TextLaws.{decimal_most}
 
 -- ---- the parts of a line
 
-pub enclosed_parts : (position : ℕ) (e : Enclosure) →
-    line_of position (A.Enclosed e)
+pub enclosed_parts : (position : ℕ) (e : Enclosure ℤ) →
+    line_of position (Ok e)
     ≡ decimal position ++ (32 ∷ 69 ∷ []) ++ ends_bytes e.median ++ ends_bytes e.sigma
 unfolding line_of spaced
 enclosed_parts position e = simp (append_assoc, append-nil)
 
-pub refused_parts : (position k : ℕ) →
-    line_of position (A.Refused k) ≡ decimal position ++ (32 ∷ 82 ∷ 32 ∷ []) ++ decimal k
+pub refused_parts : (position : ℕ) (r : Refusal) →
+    line_of position (Err r) ≡ decimal position ++ (32 ∷ 82 ∷ 32 ∷ []) ++ decimal (refusal_number r)
 unfolding line_of spaced
-refused_parts position k = simp (append_assoc, append-nil)
+refused_parts position r = simp (append_assoc, append-nil)
 
 -- ---- on lent bytes: what is said of a line of n bytes
 
@@ -51,8 +53,10 @@ module _ (line lent : List ℕ) {n : ℕ} where
       let long = le-ltb (length lent) (length line) h in
       let size : n ≡ length line = rw long at count in
       let bytes : after ≡ line ++ drop (length line) lent = rw long at is in
-      rw bytes (take_at line (drop (length line) lent) n (omega arith),
-      omega (arith, length-append line (drop (length line) lent)))
+      rw bytes (
+        take_at line (drop (length line) lent) n (omega arith),
+        omega (arith, length-append line (drop (length line) lent)),
+      )
 
 -- ---- sizes
 
@@ -70,11 +74,12 @@ ends_most e = omega (arith, signed_most e.low, signed_most e.high, length-append
 
 -- no line is longer than this
 pub line_most_lem : (position : ℕ) (a : Answer) → length (line_of position a) ≤ 110
-line_most_lem position (A.Enclosed e) =
+line_most_lem position (Ok e) =
     rw (enclosed_parts position e)
     (omega (arith, decimal_most position, ends_most e.median, ends_most e.sigma, length-append {A = ℕ}))
-line_most_lem position (A.Refused k) =
-    rw (refused_parts position k) (omega (arith, decimal_most position, decimal_most k, length-append {A = ℕ}))
+line_most_lem position (Err r) =
+    rw (refused_parts position r)
+    (omega (arith, decimal_most position, decimal_most (refusal_number r), length-append {A = ℕ}))
 
 pub last_line_most : (count : ℕ) → length (last_line_of count) ≤ 24
 unfolding last_line_of

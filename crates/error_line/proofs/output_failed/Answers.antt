@@ -11,9 +11,17 @@ push_counted-requires-2 c =
 
 pub push_text-requires : goal.push_text-requires
 push_text-requires c =
-    let line = rw c.new-line.ensures at c.push_counted.ensures in
-    (omega arith, omega (arith, ap length line, ap length c.push_counted-2.ensures, length-append {A = ℕ},
-    decimal_most c.args.n, decimal_most c.args.all))
+    let line = rw c.new-line.ensures at c.push_counted.ensures in (
+      omega arith,
+      omega (
+        arith,
+        ap length line,
+        ap length c.push_counted-2.ensures,
+        length-append {A = ℕ},
+        decimal_most c.args.n,
+        decimal_most c.args.all,
+      ),
+    )
 
 pub returns : goal.returns
 unfolding output_failed

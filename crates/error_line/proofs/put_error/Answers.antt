@@ -12,11 +12,11 @@ returns-clause-out_after c =
     let put = (fitting _ _ (omega arith) c.put_whole.ensures.value c.put_whole.ensures.out_after).0 in
     rw (put, c.as_slice.ensures.value)
     (elim c.match-got.branch [
-      in-Err-default w ↦
-        let got = w.in-Err-default in
-        rw (w.line-is, w.input_failed-line.ensures, got.is-0)
-    | in-Ok-Err w ↦
-        let both = w.in-Ok-Err in
-        rw (w.line-is, w.output_failed-line.ensures, both.is-0, both.is-1)
-    | in-Ok-Ok w ↦ let both = w.in-Ok-Ok in rw (w.line-is, w.new-line.ensures, both.is-0, both.is-1)
+      | in-Err-default w ↦
+          let got = w.in-Err-default in
+          rw (w.line-is, w.input_failed-line.ensures, got.is-0)
+      | in-Ok-Err w ↦
+          let both = w.in-Ok-Err in
+          rw (w.line-is, w.output_failed-line.ensures, both.is-0, both.is-1)
+      | in-Ok-Ok w ↦ let both = w.in-Ok-Ok in rw (w.line-is, w.new-line.ensures, both.is-0, both.is-1)
     ])

@@ -18,10 +18,10 @@ returns g c =
     let put = rw c.unsigned_abs.ensures.value at c.push_decimal.ensures in
     let line = rw (to_z-of_z w64 c.args.z c.ranges.z) at put in
     elim c.if-z-lt0.branch [
-      then-z-lt0 w ↦
-        let below = rw (to_z-of_z w64 c.args.z c.ranges.z) at w.if-z-lt0.true in
-        rw (line, w.line-is, w.push-then-z-lt0.ensures.items, c.push.ensures.items, below) (simp append_assoc)
-    | else-z-lt0 w ↦
-        let above = rw (to_z-of_z w64 c.args.z c.ranges.z) at w.if-z-lt0.false in
-        rw (line, w.line-is, c.push.ensures.items, above) (simp append_assoc)
+      | then-z-lt0 w ↦
+          let below = rw (to_z-of_z w64 c.args.z c.ranges.z) at w.if-z-lt0.true in
+          rw (line, w.line-is, w.push-then-z-lt0.ensures.items, c.push.ensures.items, below) (simp append_assoc)
+      | else-z-lt0 w ↦
+          let above = rw (to_z-of_z w64 c.args.z c.ranges.z) at w.if-z-lt0.false in
+          rw (line, w.line-is, c.push.ensures.items, above) (simp append_assoc)
     ]

@@ -10,46 +10,47 @@ push_decimal-requires g c = (search rules, omega (arith, decimal_most c.args.pos
 pub push-requires : goal.push-requires
 push-requires g c = (search rules, omega (arith, ap length c.push_decimal.ensures, length-append {A = ℕ}, decimal_most c.args.position))
 
-pub push-requires-in-Enclosed : goal.push-requires-in-Enclosed
-push-requires-in-Enclosed g c = (search rules, omega (arith, ap length c.push_decimal.ensures, length-append {A = ℕ}, decimal_most c.args.position))
+pub push-requires-in-Ok : goal.push-requires-in-Ok
+push-requires-in-Ok g c = (search rules, omega (arith, ap length c.push_decimal.ensures, length-append {A = ℕ}, decimal_most c.args.position))
 
 pub push_ends-requires : goal.push_ends-requires
 push_ends-requires g c = (search rules, omega (arith, ap length c.push_decimal.ensures, length-append {A = ℕ}, decimal_most c.args.position))
 
-pub push_ends-requires-in-Enclosed : goal.push_ends-requires-in-Enclosed
-push_ends-requires-in-Enclosed g c =
-    (search rules, omega (arith, ap length c.push_decimal.ensures, length-append {A = ℕ}, decimal_most c.args.position, ap length c.push_ends.ensures, ends_most c.in-Enclosed.e.median))
+pub push_ends-requires-in-Ok : goal.push_ends-requires-in-Ok
+push_ends-requires-in-Ok g c =
+    (search rules, omega (arith, ap length c.push_decimal.ensures, length-append {A = ℕ}, decimal_most c.args.position, ap length c.push_ends.ensures, ends_most c.in-Ok.e.median))
 
-pub push-requires-in-Refused : goal.push-requires-in-Refused
-push-requires-in-Refused g c = (search rules, omega (arith, ap length c.push_decimal.ensures, length-append {A = ℕ}, decimal_most c.args.position))
+pub push-requires-in-Err : goal.push-requires-in-Err
+push-requires-in-Err g c = (search rules, omega (arith, ap length c.push_decimal.ensures, length-append {A = ℕ}, decimal_most c.args.position))
 
-pub push-requires-in-Refused-2 : goal.push-requires-in-Refused-2
-push-requires-in-Refused-2 g c = (search rules, omega (arith, ap length c.push_decimal.ensures, length-append {A = ℕ}, decimal_most c.args.position))
+pub push-requires-in-Err-2 : goal.push-requires-in-Err-2
+push-requires-in-Err-2 g c = (search rules, omega (arith, ap length c.push_decimal.ensures, length-append {A = ℕ}, decimal_most c.args.position))
 
-pub push_decimal-requires-in-Refused : goal.push_decimal-requires-in-Refused
-push_decimal-requires-in-Refused g c =
-    (search rules, omega (arith, ap length c.push_decimal.ensures, length-append {A = ℕ}, decimal_most c.args.position, decimal_most c.in-Refused.k))
+pub push_decimal-requires-in-Err : goal.push_decimal-requires-in-Err
+push_decimal-requires-in-Err g c =
+    (search rules, omega (arith, ap length c.push_decimal.ensures, length-append {A = ℕ}, decimal_most c.args.position, decimal_most c.from.result))
 
-pub returns-in-Enclosed : goal.returns-in-Enclosed
-returns-in-Enclosed g c =
+pub returns-in-Ok : goal.returns-in-Ok
+returns-in-Ok g c =
     rw (
-      c.push_ends-in-Enclosed.ensures,
+      c.push_ends-in-Ok.ensures,
       c.push_ends.ensures,
-      c.push-in-Enclosed.ensures.items,
+      c.push-in-Ok.ensures.items,
       c.push.ensures.items,
       c.push_decimal.ensures,
-      c.in-Enclosed.is,
+      c.in-Ok.is,
       enclosed_parts,
     ) (simp append_assoc)
 
-pub returns-in-Refused : goal.returns-in-Refused
-returns-in-Refused g c =
+pub returns-in-Err : goal.returns-in-Err
+returns-in-Err g c =
     rw (
-      c.push_decimal-in-Refused.ensures,
-      c.push-in-Refused-2.ensures.items,
-      c.push-in-Refused.ensures.items,
+      c.push_decimal-in-Err.ensures,
+      c.from.ensures,
+      c.push-in-Err-2.ensures.items,
+      c.push-in-Err.ensures.items,
       c.push.ensures.items,
       c.push_decimal.ensures,
-      c.in-Refused.is,
+      c.in-Err.is,
       refused_parts,
     ) (simp append_assoc)
