@@ -6,17 +6,14 @@ ghost use Rattle.std.specs.Prelude.{length};
 ghost use Rattle.enclosures_theory.specs.Transfers.{ReadInto, WrittenOf};
 
 use enclosures_theory::{Failed, Transfer};
-use error_line::put_error;
+use error_line::{ERROR_MOST, put_error};
+use page::PAGE_MOST;
 use page_output::put_output;
 use std::io::{Read, Write};
 
 const BYTES_TAKEN: usize = 4_096;
 
-const PAGE_MOST: usize = 75_849;
-
-const ERROR_MOST: usize = 92;
-
-// Reads until the input ends or buf is full. Neither `read_exact` nor `read_to_end` says how far a read that fails came.
+// Reads until the input ends or buf is full. No method of `Read` that reads on says how far a read that fails came.
 fn read_all<R: Read>(input: &mut R, buf: &mut [u8]) -> Transfer
     ensures { ReadInto (length buf.old) result }
 {
@@ -31,7 +28,7 @@ fn read_all<R: Read>(input: &mut R, buf: &mut [u8]) -> Transfer
     Ok(done)
 }
 
-// Writes all of buf, each time from where the last write stopped. `write_all` does not say how far a write that fails came.
+// Writes all of buf, each time from where the last write stopped. `Write::write_all` does not say how far it came.
 fn write_all<W: Write>(output: &mut W, buf: &[u8]) -> Transfer
     ensures { WrittenOf (length buf.now) result }
 {

@@ -12,7 +12,8 @@ use arrayvec::ArrayVec;
 use decimal::{push_decimal, put_whole};
 use enclosures_theory::{Failed, Transfer};
 
-const ERROR_MOST: usize = 92;
+// Room for the line and its end, `error_most`.
+pub const ERROR_MOST: usize = 92;
 
 // Puts a text after what a line has.
 pub fn push_text<const N: usize>(line: &mut ArrayVec<u8, N>, text: &[u8])

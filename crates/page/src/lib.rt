@@ -15,7 +15,8 @@ use error_line::push_text;
 use report::push_line;
 use report_end::push_last_line;
 
-const PAGE_MOST: usize = 75_849;
+// Room for all that is printed, `page_most`.
+pub const PAGE_MOST: usize = 75_849;
 
 type Page = ArrayVec<u8, PAGE_MOST>;
 

@@ -1,5 +1,5 @@
 // The line of an answer, as bytes.
-#![tactic(auto)]
+#![tactic(auto, using(report_theory::proofs::LineLaws::line_steps), unfolding(report_theory::specs::Text::signed_decimal, report_theory::specs::Text::spaced))]
 
 ghost use Rattle.std.specs.Prelude.{◌≡◌, ◌+◌, ◌≤◌, ◌∷◌, ◌++◌, length};
 ghost use Rattle.arrayvec.specs.ArrayVec.{array_vec_len};

@@ -7,6 +7,7 @@ use native.Mathlib.Omega.{arith}
 use borrow.Author.Tests.{lt-ltb, le-ltb}
 use lib.ListN.{length, take, drop, length-append}
 use lib.Seq.{take_at}
+use mir.ValLaws.{to_z-of_z}
 use lib.IntN.{ℤ, pos, nat_abs}
 use lib.Signed.{lt_z}
 use Rattle.interval_theory.specs.declared.Ends.{Ends}
@@ -71,6 +72,19 @@ signed_most z = omega (arith, sign_most (lt_z z (pos 0)), decimal_most (nat_abs 
 pub ends_most : (e : Ends ℤ) → length (ends_bytes e) ≤ 44
 unfolding spaced
 ends_most e = omega (arith, signed_most e.low, signed_most e.high, length-append {A = ℕ})
+
+-- what a line is and how long it is at most, after each part of it that is put
+pub ruleset line_steps = (
+  append_assoc,
+  append-nil,
+  length-append,
+  decimal_most,
+  signed_most,
+  ends_most,
+  enclosed_parts,
+  refused_parts,
+  to_z-of_z,
+)
 
 -- no line is longer than this
 pub line_most_lem : (position : ℕ) (a : Answer) → length (line_of position a) ≤ 110
