@@ -1,6 +1,6 @@
 // The decimal digits of a number, as bytes: how many they are, put after a line's other bytes, and put where there may
 // be no room; and the same of a whole line.
-#![tactic(auto)]
+#![tactic(auto, using(report_theory::proofs::TextLaws::digit_steps), unfolding(report_theory::specs::Lines::length_on, report_theory::specs::Lines::bytes_after))]
 
 ghost use Rattle.std.specs.Prelude.{◌≡◌, ◌+◌, ◌≤◌, ◌++◌, length};
 ghost use Rattle.arrayvec.specs.ArrayVec.{array_vec_len};

@@ -1,5 +1,5 @@
 // The page that the program prints, as bytes.
-#![tactic(auto)]
+#![tactic(auto, using(report_theory::proofs::LineLaws::page_steps))]
 
 ghost use Rattle.std.specs.Prelude.{◌≡◌, ◌+◌, ◌*◌, ◌≤◌, ◌++◌, length, take};
 ghost use Rattle.arrayvec.specs.ArrayVec.{array_vec_len};

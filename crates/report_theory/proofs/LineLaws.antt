@@ -37,15 +37,6 @@ refused_parts position r = simp (append_assoc, append-nil)
 -- ---- on lent bytes: what is said of a line of n bytes
 
 module _ (line lent : List ℕ) {n : ℕ} where
-  pub too_short : length lent < n → n ≡ length line → (0 ≡ length_on line lent) × (lent ≡ bytes_after line lent)
-  unfolding length_on bytes_after
-  too_short h size = let short = lt-ltb (length lent) (length line) (omega arith) in (rw short refl, rw short refl)
-
-  pub whole : n ≡ length line → n ≤ length lent →
-      (n ≡ length_on line lent) × (line ++ drop n lent ≡ bytes_after line lent)
-  unfolding length_on bytes_after
-  whole size h = let long = le-ltb (length lent) (length line) (omega arith) in (rw long size, rw (long, size) refl)
-
   -- where it fits, it is what is there
   pub fitting : {after : List ℕ} → length line ≤ length lent → n ≡ length_on line lent → after ≡ bytes_after line lent →
       (take n after ≡ line) × (n ≤ length after)
@@ -98,3 +89,6 @@ line_most_lem position (Err r) =
 pub last_line_most : (count : ℕ) → length (last_line_of count) ≤ 24
 unfolding last_line_of
 last_line_most count = omega (arith, decimal_most count)
+
+-- how long each line is at most
+pub ruleset page_steps = (append_assoc, length-append, line_most_lem, last_line_most)
