@@ -1,6 +1,6 @@
 // The decimal digits of a number, as bytes: how many they are, put after a line's other bytes, and put where there may
 // be no room; and the same of a whole line.
-#![tactic(auto, using(report_theory::proofs::TextLaws::digit_steps), unfolding(report_theory::specs::Lines::length_on, report_theory::specs::Lines::bytes_after))]
+#![tactic(auto, using(report_theory::proofs::TextLaws::digit_steps))]
 
 ghost use Rattle.std.specs.Prelude.{◌≡◌, ◌+◌, ◌≤◌, ◌++◌, length};
 ghost use Rattle.arrayvec.specs.ArrayVec.{array_vec_len};
@@ -44,6 +44,7 @@ pub fn push_decimal<const N: usize>(line: &mut ArrayVec<u8, N>, n: u64)
 }
 
 // Puts a line at the front of out, and answers its length; where it does not fit, that is 0 and out is not touched.
+#[tactic(auto, unfolding(report_theory::specs::Lines::length_on, report_theory::specs::Lines::bytes_after))]
 pub fn put_whole(line: &[u8], out: &mut [u8]) -> usize
     ensures value { result ≡ length_on line.now out.old }
     ensures out_after { out.new ≡ bytes_after line.now out.old }

@@ -1,7 +1,7 @@
 -- The loop over the records keeps what is said of it, and ends with all lines but the last.
-use mathlib.Core.Path.{◌≡◌, refl}
+use mathlib.Core.Path.{◌≡◌}
 use mathlib.Core.List.{List, [], ◌∷◌, ◌++◌, append_assoc}
-use Prim.Native.Nat.{ℕ, ◌+◌, ◌*◌, ◌-◌, ◌≤◌, ◌<◌}
+use Prim.Native.Nat.{ℕ, ◌+◌, ◌*◌, ◌≤◌, ◌<◌}
 use native.Mathlib.Omega.{arith}
 use lib.ListN.{length, drop, length-append, length-drop}
 use Rattle.record_theory.proofs.Laws.{read_size}
@@ -12,32 +12,22 @@ use Rattle.engine_theory.specs.Promise.{Answer}
 use Rattle.engine_theory.specs.declared.Enclosure.{Enclosure}
 use Rattle.engine_theory.specs.Evaluation.{next_of}
 use Rattle.engine_theory.proofs.RecordLaws.{next_read, next_not_read}
-use Rattle.report_theory.specs.Lines.{line_of, last_line_of}
-use Rattle.report_theory.proofs.LineLaws.{line_most_lem, last_line_most}
-use Rattle.enclosures_theory.specs.Sizes.{bytes_taken, lines_most, line_most, last_most}
+use Rattle.report_theory.specs.Lines.{line_of}
+use Rattle.report_theory.proofs.LineLaws.{line_most_lem}
+use Rattle.enclosures_theory.specs.Sizes.{bytes_taken, line_most}
 use Rattle.enclosures_theory.specs.Output.{ended}
 use Rattle.enclosures_theory.specs.Steps.{Going, Gone}
 use Rattle.enclosures_theory.proofs.OutputLaws.{lines_end, one_read, one_refused}
 
-pub start : (front s : List ℕ) → Going front s front s 0
-start front s = record { lines = omega arith; size = omega arith; bytes = refl }
-
 -- a line with its end
 ended_most : (position : ℕ) (a : Answer) → length (ended (line_of position a)) ≤ line_most
 ended_most position a = omega (arith, line_most_lem position a, length-append (line_of position a) (10 ∷ []))
-
-pub last_ended_most : (count : ℕ) → length (ended (last_line_of count)) ≤ last_most
-last_ended_most count = omega (arith, last_line_most count, length-append (last_line_of count) (10 ∷ []))
 
 -- a record that is read takes six bytes or more of those that are left
 pub taken : (rest : List ℕ) {n : ℕ} {a : Enclosure ℤ} → next_of rest ≡ Ok (a, n) → (6 ≤ n) × (n ≤ length rest)
 taken rest e = read_size rest _ _ (next_read rest e).read
 
 module _ {front s put rest : List ℕ} {count : ℕ} (g : Going front s put rest count) (some : 0 < length rest) where
-  -- there is room for a line more
-  pub has_room : length s ≤ bytes_taken → length put + line_most ≤ length front + line_most * lines_most
-  has_room most = omega arith
-
   pub read_step : {put' rest' : List ℕ} {n : ℕ} {a : Enclosure ℤ} → next_of rest ≡ Ok (a, n) → rest' ≡ drop n rest →
       put' ≡ put ++ ended (line_of (count + 1) (Ok a)) → Going front s put' rest' (count + 1)
   read_step {n = n} {a} e left more =

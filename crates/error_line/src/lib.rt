@@ -1,5 +1,5 @@
 // The line that the program writes to standard error where reading or writing fails, as bytes.
-#![tactic(auto, using(report_theory::proofs::LineLaws::line_steps), unfolding(enclosures_theory::specs::Transfers::input_failed, enclosures_theory::specs::Transfers::output_failed))]
+#![tactic(auto, using(report_theory::proofs::LineLaws::lines))]
 
 ghost use Rattle.std.specs.Prelude.{◌≡◌, ◌++◌, ◌+◌, ◌≤◌, length, take};
 ghost use Rattle.arrayvec.specs.ArrayVec.{array_vec_len};

@@ -1,5 +1,5 @@
 // The line of an answer, as bytes.
-#![tactic(auto, using(report_theory::proofs::LineLaws::line_steps), unfolding(report_theory::specs::Text::signed_decimal, report_theory::specs::Text::spaced))]
+#![tactic(auto, using(report_theory::proofs::LineLaws::lines))]
 
 ghost use Rattle.std.specs.Prelude.{◌≡◌, ◌+◌, ◌≤◌, ◌∷◌, ◌++◌, length};
 ghost use Rattle.arrayvec.specs.ArrayVec.{array_vec_len};
@@ -13,6 +13,7 @@ use engine_theory::Answer;
 use interval_theory::Ends;
 
 // Puts a space and a number after what a line has.
+#[tactic(auto, using(report_theory::proofs::LineLaws::lines), unfolding(report_theory::specs::Text::signed_decimal))]
 fn push_end<const N: usize>(line: &mut ArrayVec<u8, N>, z: i64)
     requires { array_vec_len line.old + 22 ≤ N }
     ensures { line.new.items ≡ line.old.items ++ (32 ∷ signed_decimal z) }
@@ -24,6 +25,7 @@ fn push_end<const N: usize>(line: &mut ArrayVec<u8, N>, z: i64)
     push_decimal(line, z.unsigned_abs());
 }
 
+#[tactic(auto, using(report_theory::proofs::LineLaws::lines), unfolding(report_theory::specs::Text::spaced))]
 fn push_ends<const N: usize>(line: &mut ArrayVec<u8, N>, e: Ends<i64>)
     requires { array_vec_len line.old + 44 ≤ N }
     ensures { line.new.items ≡ line.old.items ++ ends_bytes e }

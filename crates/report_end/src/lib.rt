@@ -1,5 +1,5 @@
 // The last line, as bytes.
-#![tactic(auto, using(report_theory::proofs::LineLaws::line_steps), unfolding(report_theory::specs::Lines::last_line_of))]
+#![tactic(auto, using(report_theory::proofs::LineLaws::lines), unfolding(report_theory::specs::Lines::last_line_of))]
 
 ghost use Rattle.std.specs.Prelude.{◌≡◌, ◌+◌, ◌≤◌, ◌++◌};
 ghost use Rattle.arrayvec.specs.ArrayVec.{array_vec_len};

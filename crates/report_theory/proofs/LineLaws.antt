@@ -1,10 +1,10 @@
 -- The line of an answer in the parts that the code puts, and what is left of the lent bytes.
-use mathlib.Core.Path.{◌≡◌, refl, ap}
+use mathlib.Core.Path.{◌≡◌}
 use mathlib.Core.Bool.{Bool, true, false, cond}
 use mathlib.Core.List.{List, [], ◌∷◌, ◌++◌, append_assoc, append-nil}
-use Prim.Native.Nat.{ℕ, ◌+◌, ◌≤◌, ◌<◌}
+use Prim.Native.Nat.{ℕ, ◌≤◌}
 use native.Mathlib.Omega.{arith}
-use borrow.Author.Tests.{lt-ltb, le-ltb}
+use borrow.Author.Tests.{le-ltb}
 use lib.ListN.{length, take, drop, length-append}
 use lib.Seq.{take_at}
 use mir.ValLaws.{to_z-of_z}
@@ -65,7 +65,7 @@ unfolding spaced
 ends_most e = omega (arith, signed_most e.low, signed_most e.high, length-append {A = ℕ})
 
 -- what a line is and how long it is at most, after each part of it that is put
-pub ruleset line_steps = (
+pub ruleset lines = (
   append_assoc,
   append-nil,
   length-append,

@@ -1,5 +1,5 @@
 -- The line is put whole, as there is room for it.
-use Rattle.std.proofs.Common.{◌≡◌, ◌≤◌, arith, take, length}
+use Rattle.std.proofs.Common.{arith}
 use Rattle.report_theory.proofs.LineLaws.{fitting}
 use Rattle.error_line.proofs.put_error.Goals as goal
 use Rattle.error_line.proofs.put_error.Goals.{in-Err-default, in-Ok-Err, in-Ok-Ok}

@@ -1,7 +1,7 @@
 -- A record that is read takes six bytes or more of those that are left.
-use Rattle.std.proofs.Common.{ℕ, ◌≡◌, ◌-◌, ◌<◌, arith, sym, length, take, drop, length-drop, false-eqb, true-eqb}
+use Rattle.std.proofs.Common.{◌≡◌, ◌-◌, ◌<◌, arith, sym, length, take, drop, length-drop, false-eqb, true-eqb}
 use lib.Seq.{take_all}
-use Rattle.enclosures_theory.proofs.Steps.{taken, has_room, read_step, refused_step, end_step}
+use Rattle.enclosures_theory.proofs.Steps.{taken, read_step, refused_step, end_step}
 use Rattle.page.proofs.push_answers.Goals as goal
 
 pub slice_bounds-rest-count : goal.slice_bounds-rest-count

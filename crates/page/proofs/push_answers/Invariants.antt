@@ -1,5 +1,5 @@
 -- After each record that is read, its line is put, and fewer bytes are left.
-use Rattle.std.proofs.Common.{◌≡◌, length}
+use Rattle.std.proofs.Common.{length}
 use Rattle.enclosures_theory.specs.Steps.{Going}
 use Rattle.page.proofs.push_answers.Given as goal
 

@@ -1,5 +1,5 @@
 -- The first line, the lines of the records and the last line are the page, and there is room for it.
-use Rattle.std.proofs.Common.{◌≡◌, ◌++◌, ◌∙◌, ap, arith}
+use Rattle.std.proofs.Common.{arith}
 use Rattle.report_theory.proofs.LineLaws.{fitting}
 use Rattle.enclosures_theory.specs.Output.{lines_of}
 use Rattle.page.proofs.put_page.Goals as goal
