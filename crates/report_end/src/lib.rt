@@ -1,21 +1,21 @@
 // The last line, as bytes.
-#![tactic(auto)]
+#![tactic(auto, using(report_theory::proofs::LineLaws::lines), unfolding(report_theory::specs::Lines::last_line_of))]
 
-ghost use Rattle.std.specs.Prelude.{◌≡◌, ◌≤◌, length};
-ghost use Rattle.std.proofs.lemmas.List.Edits.{sets};
-ghost use Rattle.report_theory.specs.Lines.{end_bytes, last_line_of, length_on, bytes_after};
+ghost use Rattle.std.specs.Prelude.{◌≡◌, ◌+◌, ◌≤◌, ◌++◌};
+ghost use Rattle.arrayvec.specs.ArrayVec.{array_vec_len};
+ghost use Rattle.report_theory.specs.Lines.{last_line_of, length_on, bytes_after};
 
-use decimal::{decimal_length, put_decimal};
+use arrayvec::ArrayVec;
+use decimal::{push_decimal, put_whole};
 
-// Puts the word of the last line and a space at the front.
-fn put_word_end(out: &mut [u8])
-    requires { 4 ≤ length out.old }
-    ensures { out.new ≡ sets out.old 0 end_bytes }
+// Puts the last line, without its line end, after what a page has.
+pub fn push_last_line<const N: usize>(page: &mut ArrayVec<u8, N>, count: u64)
+    requires { array_vec_len page.old + 24 ≤ N }
+    ensures { page.new.items ≡ page.old.items ++ last_line_of count }
 {
-    out[0] = 101;
-    out[1] = 110;
-    out[2] = 100;
-    out[3] = 32;
+    // There is room.
+    let _ = page.try_extend_from_slice(b"end ");
+    push_decimal(page, count);
 }
 
 // Puts the last line, without its line end, at the front of out, and answers its length; where it does not fit, the
@@ -24,11 +24,7 @@ pub fn last_line(count: u64, out: &mut [u8]) -> usize
     ensures value { result ≡ length_on (last_line_of count) out.old }
     ensures out_after { out.new ≡ bytes_after (last_line_of count) out.old }
 {
-    let n = decimal_length(count) + 4;
-    if out.len() < n {
-        return 0;
-    }
-    put_word_end(out);
-    put_decimal(out, 4, count);
-    n
+    let mut line: ArrayVec<u8, 24> = ArrayVec::new();
+    push_last_line(&mut line, count);
+    put_whole(line.as_slice(), out)
 }
