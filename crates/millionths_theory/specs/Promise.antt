@@ -8,7 +8,6 @@ use Rattle.interval_theory.specs.declared.Ends.{Ends}
 use Rattle.scenario_theory.specs.declared.Scenario.{Scenario}
 use Rattle.engine_theory.specs.Models.{median}
 use Rattle.engine_theory.specs.Ranges.{median_most}
-use Rattle.millionths_theory.specs.declared.Millionths.{Millionths}
 use Rattle.millionths_theory.specs.declared.MillionthsAnswer.{MillionthsAnswer}
 use Rattle.millionths_theory.specs.declared.MillionthsAnswer.TheVariants as M
 
@@ -52,7 +51,7 @@ pub record Convertible (f : Formula) (e : Ends ℤ) : Type 0 where
   pub few : e.high ≤ℤ pos median_most
 
 -- two numbers that come from the ends e: every f that these enclose so lies between the numbers
-abbrev pub FromEnds : Ends ℤ → Millionths → Type 0
+abbrev pub FromEnds : Ends ℤ → Ends ℕ → Type 0
 FromEnds e m = (f : Formula) → Convertible f e → MillionthsEnds f m.low m.high
 
 -- the number and the values of each case (document 01): 0 is no refusal, and "A refusal returns its number only"
