@@ -10,10 +10,9 @@ use interval_theory::Ends;
 use logarithm::ln;
 use millionths_theory::Floor;
 pub use millionths_theory::Millionths;
-use order::{max, min};
-use signed::unsigned_abs;
 
 // ln(k/10^6).
+#[tactic(auto, unfolding(millionths_theory::specs::Evaluation::ln_millionths))]
 fn ln_millionths(k: u64) -> Ends<i64>
     requires { (1 ≤ k) × (k ≤ suc most) }
     ensures { result ≡ ln_millionths k }
@@ -27,7 +26,7 @@ fn ln_millionths(k: u64) -> Ends<i64>
 }
 
 // The greatest k with ln(k/10^6) up to z, and the low end of the next, at first that of 8,388,608. The search goes
-// number by number from the start, wherever that is.
+// number by number from the start, wherever that is; the library's searches halve from the middle and take no start.
 fn floor(z: i64, start: u64) -> Floor
     ensures { result ≡ floor_of z }
 {
@@ -35,7 +34,7 @@ fn floor(z: i64, start: u64) -> Floor
     let mut high = 8_388_608;
     let mut next = 2_126_874_594;
     while 1 < high - low {
-        let k = min(max(start, low + 1), high - 1);
+        let k = start.clamp(low + 1, high - 1);
         let e = ln_millionths(k);
         if e.high <= z {
             low = k;
@@ -52,14 +51,14 @@ fn ceiling_after(a: u64, next: i64, z: i64) -> u64
     requires { (a ≤ most) × (next ≡ (ln_millionths (a + 1)).low) }
     ensures { result ≡ ceiling_after a z }
 {
-    let mut k = a + 1;
     let mut low = next;
-    while k < 8_388_608 && !(z <= low) {
-        k = k + 1;
-        let e = ln_millionths(k);
-        low = e.low;
+    for k in a + 1..8_388_608 {
+        if z <= low {
+            return k;
+        }
+        low = ln_millionths(k + 1).low;
     }
-    k
+    8_388_608
 }
 
 // c + r f, where f is in units of 2^-32.
@@ -86,11 +85,7 @@ fn power_of_two(f: u64) -> u64
 fn shifted(z: i64) -> u64
     ensures { result ≤ 15_941_510_558 }
 {
-    let size = unsigned_abs(z);
-    if z < 0 {
-        return 13_815_510_558 - min(size, 13_815_510_558);
-    }
-    13_815_510_558 + min(size, 2_126_000_000)
+    (z.clamp(-13_815_510_558, 2_126_000_000) + 13_815_510_558) as u64
 }
 
 // 10^6 e^z, for z in units of 10^-9, nearly, by its logarithm to the base 2 in units of 2^-32: where the search starts.

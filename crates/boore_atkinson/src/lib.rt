@@ -14,19 +14,20 @@ use boore_atkinson_rock as rock;
 use boore_atkinson_site as site;
 use boore_atkinson_tables as table;
 use interpolation_theory::TwoRows;
-use interval::{ends, plus};
+use interval::{ends, exactly, plus};
 use interval_theory::{Ends, SignedPair};
 use period_step::no_pair;
 use scenario_theory::ProjectionDistance;
 
 // What the nonlinear part has over the slope, which all rows have in common: from 760 m/s on the slope is 0, p has no
 // part in it, and 0 stands for it.
+#[tactic(auto, unfolding(boore_atkinson_theory::specs::Evaluation::curve_for))]
 fn curve_for(v: u64, m: u64, d: ProjectionDistance, mechanism: u8) -> Ends<u64>
     requires { (500 ≤ m) × (m ≤ 800) × (d.0 ≤ 19_999) }
     ensures { (result ≡ curve_for v m d.0 mechanism) × Sized result curve_most curve_most }
 {
     if 7_600 <= v {
-        return Ends { low: 0, high: 0 };
+        return exactly(0);
     }
     site::curve(rock::minus_p(m, d, mechanism))
 }
@@ -94,11 +95,9 @@ pub fn median_rows(
     let l = site::vs30_ln(v);
     let mut lower = no_pair();
     let mut upper = no_pair();
-    let mut i = k;
-    while i <= last {
+    for i in k..=last {
         lower = upper;
         upper = median_by_row(i, m, projection_distance, v, l, q, mechanism);
-        i += 1;
     }
     TwoRows { lower, upper }
 }

@@ -11,8 +11,13 @@ ghost use Rattle.boore_atkinson_theory.specs.Sizes.{EffectiveSized, MagnitudeBou
 ghost use Rattle.interval_theory.specs.Bound.{SignedSized};
 
 use boore_atkinson_theory::{DistanceRow, EffectiveDistance, Exact, MagnitudeRow};
+use interval::exactly;
 use interval_theory::{Ends, SignedPair};
 use scenario_theory::ProjectionDistance;
+
+// DistanceLimits and a magnitude from 5 to 8 stand in each contract: rock and minus_p, which docs/CONTRACTS.md names,
+// take any that meet them, and so no narrower type. Exact has numbers where SignedPair has ends: one type for both
+// would be named with its parameter in each contract.
 
 // R, from a projection distance and h.
 pub fn effective_distance(projection_distance: ProjectionDistance, h: u64) -> EffectiveDistance
@@ -51,31 +56,25 @@ fn fall(r: DistanceRow, m: u64, s: EffectiveDistance) -> Ends<u64>
 }
 
 // e, by the code of the mechanism.
+#[tactic(auto, unfolding(boore_atkinson_theory::specs::Evaluation::level_of))]
 fn level(r: MagnitudeRow, mechanism: u8) -> Exact
     requires { MagnitudeLimits r }
     ensures { (result ≡ level_of r mechanism) × Small result 3_000_000_000 }
 {
-    match mechanism {
-        9 => Exact {
-            gain: 10_000 * r.0 as u64,
-            loss: 10_000 * r.1 as u64,
-        },
-        0 => Exact {
-            gain: 10_000 * r.2 as u64,
-            loss: 10_000 * r.3 as u64,
-        },
-        1 => Exact {
-            gain: 10_000 * r.4 as u64,
-            loss: 10_000 * r.5 as u64,
-        },
-        _ => Exact {
-            gain: 10_000 * r.6 as u64,
-            loss: 10_000 * r.7 as u64,
-        },
+    let (gain, loss) = match mechanism {
+        9 => (r.0, r.1),
+        0 => (r.2, r.3),
+        1 => (r.4, r.5),
+        _ => (r.6, r.7),
+    };
+    Exact {
+        gain: 10_000 * gain as u64,
+        loss: 10_000 * loss as u64,
     }
 }
 
 // The magnitude term, exactly.
+#[tactic(auto, unfolding(boore_atkinson_theory::specs::Evaluation::magnitude_of))]
 fn magnitude_term(r: MagnitudeRow, m: u64, mechanism: u8) -> Exact
     requires { MagnitudeLimits r × MagnitudeBounds r m }
     ensures { (result ≡ magnitude_of r m mechanism) × Small result term_most }
@@ -109,12 +108,8 @@ pub fn rock(
 {
     let f = fall(r, m, s);
     let g = magnitude_term(q, m, mechanism);
-    let gain = g.gain + 10_000 * r.3 as u64;
     SignedPair {
-        gain: Ends {
-            low: gain,
-            high: gain,
-        },
+        gain: exactly(g.gain + 10_000 * r.3 as u64),
         loss: Ends {
             low: g.loss + f.low,
             high: g.loss + f.high,

@@ -11,17 +11,14 @@ ghost use Rattle.boore_atkinson_theory.specs.Evaluation.{exact_pair, sigma_pair_
 use boore_atkinson_tables as table;
 use boore_atkinson_theory::TotalRow;
 use interpolation_theory::TwoRows;
-use interval::between;
+use interval::{between, exactly};
 use interval_theory::{Ends, SignedPair};
 
 // The total for a fault type that is unspecified, code 9, or specified.
 fn total(t: TotalRow, mechanism: u8) -> u32
     ensures { result ≡ cond (eqb mechanism 9) t.0 t.1 }
 {
-    if mechanism == 9 {
-        return t.0;
-    }
-    t.1
+    if mechanism == 9 { t.0 } else { t.1 }
 }
 
 // Sigma by row k, in units of 10^-9.
@@ -47,8 +44,8 @@ fn exact_pair(n: u64) -> SignedPair
     ensures { result ≡ exact_pair n }
 {
     SignedPair {
-        gain: Ends { low: n, high: n },
-        loss: Ends { low: 0, high: 0 },
+        gain: exactly(n),
+        loss: exactly(0),
     }
 }
 

@@ -4,7 +4,6 @@
 ghost use Rattle.std.specs.Prelude.{◌≡◌, ◌≤◌, ◌<◌};
 ghost use Rattle.interval_theory.specs.Bound.{Sized};
 ghost use Rattle.boore_atkinson_theory.specs.Rows.{SiteLimits};
-ghost use Rattle.interval_theory.specs.Natural.{exactly};
 ghost use Rattle.boore_atkinson_theory.specs.Evaluation.{vs30_ln_of, linear_of, slow_slope_of, fast_slope_of};
 ghost use Rattle.boore_atkinson_theory.specs.Evaluation.{slope_of, z_of, cubic_of, straight_of, branch_of, curve_of};
 ghost use Rattle.boore_atkinson_theory.specs.Evaluation.{nonlinear_by};
@@ -14,9 +13,11 @@ ghost use Rattle.interval_theory.specs.Bound.{SignedSized};
 ghost use Rattle.boore_atkinson_theory.specs.Sizes.{linear_most, curve_most, nonlinear_most};
 
 use boore_atkinson_theory::SiteRow;
-use interval::{hull, multiple, product, sum};
+use interval::{exactly, hull, multiple, product, sum};
 use interval_theory::{Ends, SignedPair};
-use order::{max, min};
+
+// SiteLimits and V1 ≤ v stand in each contract: linear and nonlinear_part, which docs/CONTRACTS.md names, take any row
+// and velocity that meet them, and so no narrower type.
 
 // ln(0.1/0.06), 1/ln(300/180), 1/ln(760/300), and c and d over the slope.
 const MINUS_LN_LOW: Ends<u64> = Ends {
@@ -44,13 +45,8 @@ const D_OVER: Ends<u64> = Ends {
     high: 216_959_886,
 };
 
-fn exact(n: u64) -> Ends<u64>
-    ensures { result ≡ exactly n }
-{
-    Ends { low: n, high: n }
-}
-
 // The absolute value of ln(V/760), which the linear part and the slope have in common.
+#[tactic(auto, unfolding(boore_atkinson_theory::specs::Evaluation::vs30_ln_of))]
 pub fn vs30_ln(v: u64) -> Ends<u64>
     requires { (V1 ≤ v) × (v ≤ 13_000) }
     ensures { result ≡ vs30_ln_of v }
@@ -70,11 +66,11 @@ pub fn linear(s: SiteRow, v: u64, l: Ends<u64>) -> SignedPair
     if v < 7_600 {
         return SignedPair {
             gain: term,
-            loss: exact(0),
+            loss: exactly(0),
         };
     }
     SignedPair {
-        gain: exact(0),
+        gain: exactly(0),
         loss: term,
     }
 }
@@ -88,7 +84,7 @@ fn slow_slope(s: SiteRow, v: u64) -> Ends<u64>
     let b2 = s.2 as u64;
     sum(
         multiple(20_000 * (s.1 as u64 - 10 * b2), ratio),
-        exact(10_000_000 * b2),
+        exactly(10_000_000 * b2),
     )
 }
 
@@ -107,7 +103,7 @@ fn slope(s: SiteRow, v: u64, l: Ends<u64>) -> Ends<u64>
     ensures { (result ≡ slope_of s v) × Sized result 6 900_000_000 }
 {
     if v <= 1_800 {
-        return exact(1_000_000 * s.1 as u64);
+        return exactly(1_000_000 * s.1 as u64);
     }
     if v <= 3_000 {
         return slow_slope(s, v);
@@ -115,7 +111,7 @@ fn slope(s: SiteRow, v: u64, l: Ends<u64>) -> Ends<u64>
     if v < 7_600 {
         return fast_slope(s, v, l);
     }
-    exact(0)
+    exactly(0)
 }
 
 // z = p − ln 0.03, where −p lies in b and p is above ln 0.03 and up to ln 0.09.
@@ -124,8 +120,8 @@ fn transition_z(b: Ends<u64>) -> Ends<u64>
     ensures { (result ≡ z_of b) × Sized result 1_098_612_290 1_098_612_290 }
 {
     Ends {
-        low: 3_506_557_897 - min(b.high, 3_506_557_897),
-        high: 3_506_557_898 - max(b.low, 2_407_945_608),
+        low: 3_506_557_897 - b.high.min(3_506_557_897),
+        high: 3_506_557_898 - b.low.max(2_407_945_608),
     }
 }
 
@@ -144,7 +140,7 @@ fn straight(b: Ends<u64>) -> Ends<u64>
     ensures { (result ≡ straight_of b) × Sized result curve_most curve_most }
 {
     Ends {
-        low: 2_813_410_715 - min(b.high, 2_407_945_609),
+        low: 2_813_410_715 - b.high.min(2_407_945_609),
         high: 2_813_410_718 - b.low,
     }
 }
@@ -171,13 +167,13 @@ pub fn curve(b: Ends<u64>) -> Ends<u64>
     ensures { (result ≡ curve_of b) × Sized result curve_most curve_most }
 {
     if 3_506_557_898 <= b.low {
-        return exact(0);
+        return exactly(0);
     }
     let u = upper(b);
     if b.high < 3_506_557_897 {
         return u;
     }
-    hull(exact(0), u)
+    hull(exactly(0), u)
 }
 
 // The nonlinear part, where l is the absolute value of ln(V/760), and q is what it has over the slope. From 760 m/s on

@@ -1,13 +1,16 @@
-// The decimal digits of a number, as bytes: how many they are, put at a place, and put where there may be no room.
-#![tactic(auto)]
+// The decimal digits of a number, as bytes: how many they are, put after a line's other bytes, and put where there may
+// be no room; and the same of a whole line.
+#![tactic(auto, using(report_theory::proofs::TextLaws::digit_steps))]
 
-ghost use Rattle.std.specs.Prelude.{◌≡◌, ◌+◌, ◌≤◌, length};
-ghost use Rattle.stores_theory.specs.Stores.{Put};
+ghost use Rattle.std.specs.Prelude.{◌≡◌, ◌+◌, ◌≤◌, ◌++◌, length};
+ghost use Rattle.arrayvec.specs.ArrayVec.{array_vec_len};
 ghost use Rattle.report_theory.specs.Text.{decimal};
 ghost use Rattle.report_theory.specs.Lines.{length_on, bytes_after};
 ghost use Rattle.report_theory.specs.Steps.{Counted};
 
-// How many decimal digits n has.
+use arrayvec::ArrayVec;
+
+// How many decimal digits n has, and so how many bytes `number` needs.
 pub fn decimal_length(n: u64) -> usize
     ensures { Counted (decimal n) 20 result }
 {
@@ -17,18 +20,41 @@ pub fn decimal_length(n: u64) -> usize
     decimal_length(n / 10) + 1
 }
 
-// Puts n at a place, and answers the place after it.
-pub fn put_decimal(out: &mut [u8], at: usize, n: u64) -> usize
-    requires { at + length (decimal n) ≤ length out.old }
-    ensures { Put at (decimal n) out.old result out.new }
+// The digits of n.
+pub fn digits_of(n: u64) -> ArrayVec<u8, 20>
+    ensures { result.items ≡ decimal n }
 {
     if n < 10 {
-        out[at] = 48 + n as u8;
-        return at + 1;
+        let mut digits = ArrayVec::new();
+        digits.push(b'0' + n as u8);
+        return digits;
     }
-    let next = put_decimal(out, at, n / 10);
-    out[next] = 48 + (n % 10) as u8;
-    next + 1
+    let mut digits = digits_of(n / 10);
+    digits.push(b'0' + (n % 10) as u8);
+    digits
+}
+
+// Puts n after what a line has.
+pub fn push_decimal<const N: usize>(line: &mut ArrayVec<u8, N>, n: u64)
+    requires { array_vec_len line.old + length (decimal n) ≤ N }
+    ensures { line.new.items ≡ line.old.items ++ decimal n }
+{
+    // There is room.
+    let _ = line.try_extend_from_slice(digits_of(n).as_slice());
+}
+
+// Puts a line at the front of out, and answers its length; where it does not fit, that is 0 and out is not touched.
+#[tactic(auto, unfolding(report_theory::specs::Lines::length_on, report_theory::specs::Lines::bytes_after))]
+pub fn put_whole(line: &[u8], out: &mut [u8]) -> usize
+    ensures value { result ≡ length_on line.now out.old }
+    ensures out_after { out.new ≡ bytes_after line.now out.old }
+{
+    let n = line.len();
+    if out.len() < n {
+        return 0;
+    }
+    out[..n].copy_from_slice(line);
+    n
 }
 
 // Puts the digits of n at the front of out, and answers how many they are; where they do not fit, that is 0 and out is
@@ -37,10 +63,5 @@ pub fn number(n: u64, out: &mut [u8]) -> usize
     ensures value { result ≡ length_on (decimal n) out.old }
     ensures out_after { out.new ≡ bytes_after (decimal n) out.old }
 {
-    let k = decimal_length(n);
-    if out.len() < k {
-        return 0;
-    }
-    put_decimal(out, 0, n);
-    k
+    put_whole(digits_of(n).as_slice(), out)
 }

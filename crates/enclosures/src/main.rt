@@ -5,51 +5,42 @@
 ghost use Rattle.std.specs.Prelude.{length};
 ghost use Rattle.enclosures_theory.specs.Transfers.{ReadInto, WrittenOf};
 
-use enclosures_theory::Transfer;
-use error_line::put_error;
+use enclosures_theory::{Failed, Transfer};
+use error_line::{ERROR_MOST, put_error};
+use page::PAGE_MOST;
 use page_output::put_output;
 use std::io::{Read, Write};
 
 const BYTES_TAKEN: usize = 4_096;
 
-const PAGE_MOST: usize = 75_849;
-
-const ERROR_MOST: usize = 92;
-
-// Reads until the input ends or buf is full.
+// Reads until the input ends or buf is full. No method of `Read` that reads on says how far a read that fails came.
 fn read_all<R: Read>(input: &mut R, buf: &mut [u8]) -> Transfer
     ensures { ReadInto (length buf.old) result }
 {
     let mut done: usize = 0;
     while done < buf.len() {
-        let n = match input.read(&mut buf[done..]) {
-            Ok(n) => n,
-            Err(_) => return Transfer::Failed(done),
-        };
+        let n = input.read(&mut buf[done..]).map_err(|_| Failed(done))?;
         if n == 0 {
-            return Transfer::Complete(done);
+            break;
         }
         done += n;
     }
-    Transfer::Complete(done)
+    Ok(done)
 }
 
-// Writes all of buf, each time from where the last write stopped.
+// Writes all of buf, each time from where the last write stopped. `Write::write_all` does not say how far it came.
 fn write_all<W: Write>(output: &mut W, buf: &[u8]) -> Transfer
     ensures { WrittenOf (length buf.now) result }
 {
     let mut done: usize = 0;
     while done < buf.len() {
-        let put = match output.write(&buf[done..]) {
-            Ok(n) => n,
-            Err(_) => return Transfer::Failed(done),
-        };
+        let put = output.write(&buf[done..]).map_err(|_| Failed(done))?;
         if put < 1 {
-            return Transfer::Failed(done);
+            return Err(Failed(done));
         }
         done += put;
     }
-    Transfer::Complete(done)
+    Ok(done)
 }
 
 fn main(rt: HostRuntime) {
@@ -60,5 +51,6 @@ fn main(rt: HostRuntime) {
     let n = put_output(got, &bytes, &mut page);
     let put = write_all(&mut rt.stdout(), &page[..n]);
     let m = put_error(got, put, n, &mut error);
-    write_all(&mut rt.stderr(), &error[..m]);
+    // Where this fails, too, there is nowhere left to say so.
+    let _ = write_all(&mut rt.stderr(), &error[..m]);
 }

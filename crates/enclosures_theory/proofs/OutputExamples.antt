@@ -3,7 +3,8 @@ use mathlib.Core.Path.{◌≡◌, refl, ap}
 use mathlib.Core.List.{List, [], ◌∷◌, ◌++◌}
 use Prim.Native.Nat.{ℕ}
 use native.Mathlib.Omega.{arith}
-use Rattle.record_theory.specs.declared.Reading.TheVariants.{Refused}
+use Rattle.std.specs.Prelude.{Err}
+use Rattle.scenario_theory.specs.declared.Refusal.TheVariants as E
 use Rattle.record_theory.specs.Outcome.{scenario_in, length_by, map_refusal, read_refusal, read_of}
 use Rattle.record_theory.specs.Layout.{size_of, numbers_of, absent_written}
 use Rattle.scenario_theory.specs.Refusal.{beyond_periods, refusal_by, refusal_by_model, lacks_distance}
@@ -28,7 +29,7 @@ empty_input = after_first (lines_end 0)
 abbrev bytes : List ℕ
 bytes = 0x37 ∷ 0x01 ∷ 0xbc ∷ 0x02 ∷ 0xe8 ∷ 0x03 ∷ 0x02 ∷ 0x09 ∷ 0x00 ∷ []
 
-read_with_6 : read_of bytes ≡ Refused 6
+read_with_6 : read_of bytes ≡ Err E.Period
 unfolding read_of read_refusal map_refusal length_by scenario_in size_of numbers_of absent_written refusal_of
     lacks_distance
     projection_exceeds refusal_by_model refusal_by beyond_periods
@@ -36,7 +37,7 @@ read_with_6 = refl
 
 pub refused_example : lines_of bytes ≡ ascii "enclosures\n1 R 6\nend 1\n"
 unfolding lines_of line_of last_line_of spaced decimal digits_by
-refused_example = after_first (one_refused 0 bytes 6 (omega arith) read_with_6)
+refused_example = after_first (one_refused 0 bytes E.Period (omega arith) read_with_6)
 
 pub input_example : input_failed 12 ≡ ascii "enclosures: standard input failed after 12 bytes"
 unfolding input_failed decimal digits_by

@@ -8,11 +8,11 @@ use lib.ListN.{length, drop, length-drop}
 use Rattle.scenario_theory.specs.declared.Scenario.{Scenario}
 use Rattle.scenario_theory.specs.Checks.{unless_refused}
 use Rattle.scenario_theory.proofs.CheckLaws.{is_refused}
-use Rattle.record_theory.specs.declared.Reading.TheVariants.{Read, Refused}
+use Rattle.std.specs.Prelude.{Ok, Err}
+use Rattle.scenario_theory.specs.declared.Refusal.{Refusal}
 use Rattle.record_theory.specs.Outcome.{map_in, scenario_in, length_by, read_refusal, read_of, rest_of}
 use Rattle.record_theory.proofs.Laws.{read_size}
 use Rattle.record_theory.proofs.ReadingLaws.{read_as, not_read}
-use Rattle.engine_theory.specs.declared.Answer.TheVariants as A
 use Rattle.engine_theory.specs.Evaluation.{answer_of, record_answer_of}
 use Rattle.engine_theory.proofs.RecordLaws.{record_as_fields, record_refused}
 use Rattle.report_theory.specs.Lines.{line_of, last_line_of}
@@ -22,7 +22,7 @@ use Rattle.enclosures_theory.specs.Output.{ended, lines_from, lines_after}
 rest_less : (b : ℕ) (s : List ℕ) → read_refusal (b ∷ s) ≡ 0 → length (rest_of (b ∷ s)) ≤ length s
 unfolding read_of
 rest_less b s e =
-    let read : read_of (b ∷ s) ≡ Read (scenario_in (b ∷ s)) (length_by (map_in (b ∷ s))) = rw e refl in
+    let read : read_of (b ∷ s) ≡ Ok (scenario_in (b ∷ s), length_by (map_in (b ∷ s))) = rw e refl in
     let size = read_size (b ∷ s) _ _ read in
     let rest = (read_as (b ∷ s) _ _ read).rest in
     omega (arith, ap length rest, length-drop (length_by (map_in (b ∷ s))) (b ∷ s))
@@ -71,16 +71,16 @@ lines_step count b s =
 
 -- ---- the same by what reading answers
 
-pub one_read : (count : ℕ) (s : List ℕ) (x : Scenario) (n : ℕ) → 0 < length s → read_of s ≡ Read x n →
+pub one_read : (count : ℕ) (s : List ℕ) (x : Scenario) (n : ℕ) → 0 < length s → read_of s ≡ Ok (x, n) →
     lines_after count s ≡ ended (line_of (count + 1) (answer_of x)) ++ lines_after (count + 1) (drop n s)
 one_read count [] x n h e = absurd (omega arith)
 one_read count (b ∷ s) x n h e =
     let r = read_as (b ∷ s) x n e in
     rw (lines_step count b s, record_as_fields (b ∷ s) x n e, r.number, r.rest) refl
 
-pub one_refused : (count : ℕ) (s : List ℕ) (j : ℕ) → 0 < length s → read_of s ≡ Refused j →
-    lines_after count s ≡ ended (line_of (count + 1) (A.Refused j)) ++ ended (last_line_of (count + 1))
+pub one_refused : (count : ℕ) (s : List ℕ) (j : Refusal) → 0 < length s → read_of s ≡ Err j →
+    lines_after count s ≡ ended (line_of (count + 1) (Err j)) ++ ended (last_line_of (count + 1))
 one_refused count [] j h e = absurd (omega arith)
 one_refused count (b ∷ s) j h e =
     let r = not_read (b ∷ s) j e in
-    rw (lines_step count b s, ← record_refused (b ∷ s) j e, r.number, ← is_refused j _ _ r.some) refl
+    rw (lines_step count b s, ← record_refused (b ∷ s) e, ← is_refused (read_refusal (b ∷ s)) _ _ r.some) refl

@@ -1,55 +1,56 @@
 // The line that the program writes to standard error where reading or writing fails, as bytes.
-#![tactic(auto)]
+#![tactic(auto, using(report_theory::proofs::LineLaws::lines))]
 
 ghost use Rattle.std.specs.Prelude.{◌≡◌, ◌++◌, ◌+◌, ◌≤◌, length, take};
+ghost use Rattle.arrayvec.specs.ArrayVec.{array_vec_len};
 ghost use Rattle.report_theory.specs.Text.{decimal, places};
 ghost use Rattle.enclosures_theory.specs.Sizes.{error_most};
 ghost use Rattle.enclosures_theory.specs.Output.{ended};
 ghost use Rattle.enclosures_theory.specs.Transfers.{input_failed, output_failed, error_of};
-ghost use Rattle.enclosures_theory.specs.Steps.{Added};
 
-use enclosures_theory::Transfer;
+use arrayvec::ArrayVec;
+use decimal::{push_decimal, put_whole};
+use enclosures_theory::{Failed, Transfer};
 
-// Puts a text at a place, and answers the place after it.
-pub fn put_text(out: &mut [u8], at: usize, text: &[u8]) -> usize
-    requires { at + length text.now ≤ length out.old }
-    ensures { Added text.now at out.old result out.new }
+// Room for the line and its end, `error_most`.
+pub const ERROR_MOST: usize = 92;
+
+// Puts a text after what a line has.
+pub fn push_text<const N: usize>(line: &mut ArrayVec<u8, N>, text: &[u8])
+    requires { array_vec_len line.old + length text.now ≤ N }
+    ensures { line.new.items ≡ line.old.items ++ text.now }
 {
-    let mut i: usize = 0;
-    while i < text.len() {
-        out[at + i] = text[i];
-        i += 1;
+    for b in text {
+        line.push(*b);
     }
-    at + i
 }
 
 // The same of a text and a number.
-fn put_counted(out: &mut [u8], at: usize, text: &[u8], n: usize) -> usize
-    requires { at + length text.now + places ≤ length out.old }
-    ensures { Added (text.now ++ decimal n) at out.old result out.new }
+fn push_counted(line: &mut ArrayVec<u8, ERROR_MOST>, text: &[u8], n: usize)
+    requires { array_vec_len line.old + length text.now + places ≤ ERROR_MOST }
+    ensures { line.new.items ≡ line.old.items ++ (text.now ++ decimal n) }
 {
-    let next = put_text(out, at, text);
-    let k = decimal::number(n as u64, &mut out[next..]);
-    next + k
+    push_text(line, text);
+    push_decimal(line, n as u64);
 }
 
-fn put_input_failed(n: usize, out: &mut [u8]) -> usize
-    requires { error_most ≤ length out.old }
-    ensures out_after { take result out.new ≡ ended (input_failed n) }
-    ensures upper_bound { result ≤ length out.new }
+fn input_failed(n: usize) -> ArrayVec<u8, ERROR_MOST>
+    ensures { result.items ≡ ended (input_failed n) }
 {
-    let at = put_counted(out, 0, b"enclosures: standard input failed after ", n);
-    put_text(out, at, b" bytes\n")
+    let mut line = ArrayVec::new();
+    push_counted(&mut line, b"enclosures: standard input failed after ", n);
+    push_text(&mut line, b" bytes\n");
+    line
 }
 
-fn put_output_failed(n: usize, all: usize, out: &mut [u8]) -> usize
-    requires { error_most ≤ length out.old }
-    ensures out_after { take result out.new ≡ ended (output_failed n all) }
-    ensures upper_bound { result ≤ length out.new }
+fn output_failed(n: usize, all: usize) -> ArrayVec<u8, ERROR_MOST>
+    ensures { result.items ≡ ended (output_failed n all) }
 {
-    let of = put_counted(out, 0, b"enclosures: standard output failed after ", n);
-    let at = put_counted(out, of, b" of ", all);
-    put_text(out, at, b" bytes\n")
+    let mut line = ArrayVec::new();
+    push_counted(&mut line, b"enclosures: standard output failed after ", n);
+    push_counted(&mut line, b" of ", all);
+    push_text(&mut line, b" bytes\n");
+    line
 }
 
 // Puts what goes to standard error after a read and a write of so many bytes, and answers how many bytes it has.
@@ -58,11 +59,10 @@ pub fn put_error(got: Transfer, put: Transfer, all: usize, out: &mut [u8]) -> us
     ensures out_after { take result out.new ≡ error_of got put all }
     ensures upper_bound { result ≤ length out.new }
 {
-    let Transfer::Failed(n) = got else {
-        let Transfer::Failed(k) = put else {
-            return 0;
-        };
-        return put_output_failed(k, all, out);
+    let line = match (got, put) {
+        (Err(Failed(n)), _) => input_failed(n),
+        (Ok(_), Err(Failed(n))) => output_failed(n, all),
+        (Ok(_), Ok(_)) => ArrayVec::new(),
     };
-    put_input_failed(n, out)
+    put_whole(line.as_slice(), out)
 }

@@ -1,7 +1,7 @@
 -- The three cases of what is computed of a sheet.
-use mathlib.Core.Path.{◌≡◌, refl}
+use mathlib.Core.Path.{◌≡◌, refl, ap, ◌∙◌}
 use borrow.Author.Tests.{eq-eqb, ne_eqb}
-use Rattle.std.specs.Prelude.{Some, None}
+use Rattle.std.specs.Prelude.{Option, Some, None}
 use Rattle.sheet_theory.specs.declared.FlatSheet.{FlatSheet}
 use Rattle.governing_theory.specs.declared.Greatest.{Greatest}
 use Rattle.governing_theory.specs.Evaluation.{greatest_high, greatest_low, no_screening, screening_by}
@@ -22,4 +22,7 @@ module _ (sheet : FlatSheet) where
 
   pub some_is : {high low : Greatest} → sheet.number ≡ 0 → greatest_high sheet ≡ Some high →
       greatest_low sheet ≡ Some low → screening_of sheet ≡ screening_by (Some high) (Some low) sheet
-  some_is e high low = rw (within_is e, high, low) refl
+  some_is {high} e is is' =
+      within_is e
+      ∙ ap (λ (h : Option Greatest). screening_by h (greatest_low sheet) sheet) is
+      ∙ ap (λ (l : Option Greatest). screening_by (Some high) l sheet) is'

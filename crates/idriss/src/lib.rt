@@ -24,6 +24,7 @@ use period_step::no_pair;
 use scenario_theory::RuptureDistance;
 
 // a1 + a2 M + a3 (8.5 − M)², where none of the three is below zero.
+#[tactic(auto, unfolding(idriss_theory::specs::Evaluation::alpha_sum))]
 fn alpha_sum(a1: u32, a2: u32, a3: u32, m: u64) -> u64
     requires { AlphaDomain a1 a2 a3 m }
     ensures { (result ≡ alpha_sum a1 a2 a3 m) × (result ≤ alpha_most) }
@@ -33,18 +34,18 @@ fn alpha_sum(a1: u32, a2: u32, a3: u32, m: u64) -> u64
 }
 
 // F, by the code of the mechanism.
+#[tactic(auto, unfolding(idriss_theory::specs::Median::F))]
 fn faulting(mechanism: u8) -> u64
     ensures { (result ≡ F mechanism) × (result ≤ 1) }
 {
     match mechanism {
-        2 => 1,
-        3 => 1,
-        4 => 1,
+        2 | 3 | 4 => 1,
         _ => 0,
     }
 }
 
 // The parts of α1 + α2 M + α3 (8.5 − M)² + γ R + φ F that are above zero.
+#[tactic(auto, unfolding(idriss_theory::specs::Evaluation::gains_of))]
 fn gains(r: Row, m: u64, mechanism: u8) -> u64
     requires { RowLimits r × (450 ≤ m) × (m ≤ 790) }
     ensures { (result ≡ gains_of r m mechanism) × (result ≤ exact_most) }
@@ -53,6 +54,7 @@ fn gains(r: Row, m: u64, mechanism: u8) -> u64
 }
 
 // Those that are below zero.
+#[tactic(auto, unfolding(idriss_theory::specs::Evaluation::losses_of))]
 fn losses(r: Row, m: u64, rupture_distance: u64) -> u64
     requires { RowLimits r × (450 ≤ m) × (m ≤ 790) × (rupture_distance ≤ 17_500) }
     ensures { (result ≡ losses_of r m rupture_distance) × (result ≤ exact_most) }
@@ -73,7 +75,7 @@ fn vs30_ln(vs30: u64) -> Ends<u64>
     requires { 4_500 ≤ vs30 }
     ensures { (result ≡ vs30_ln_of vs30) × Sized result ln_width ln_most }
 {
-    logarithm::ln(order::min(vs30, 12_000), 10)
+    logarithm::ln(vs30.min(12_000), 10)
 }
 
 // (β1 + β2 M) ln(R + 10), by that logarithm.
@@ -94,6 +96,7 @@ fn site_term(r: Row, l: Ends<u64>) -> Ends<u64>
 
 // The median by row k of Table 3 where `table_3`, else of Table 2, as a gain less a loss. What rows have in common is
 // worked out before: ln(R + 10) and ln V.
+#[tactic(auto, unfolding(interval_theory::specs::Natural::sum_of, idriss_theory::specs::Evaluation::median_pair_by))]
 fn median_by_row(
     table_3: bool,
     k: usize,
@@ -113,7 +116,7 @@ fn median_by_row(
     let up = gains(r, m, mechanism);
     let down = losses(r, m, d);
     SignedPair {
-        gain: Ends { low: up, high: up },
+        gain: interval::exactly(up),
         loss: Ends {
             low: down + far.low + site.low,
             high: down + far.high + site.high,
@@ -161,11 +164,9 @@ pub fn median_rows(
     let ln_v = vs30_ln(vs30 as u64);
     let mut lower = no_pair();
     let mut upper = no_pair();
-    let mut i = k;
-    while i <= last {
+    for i in k..=last {
         lower = upper;
         upper = median_by_row(table_3, i, m, d, ln_r, ln_v, mechanism);
-        i += 1;
     }
     TwoRows { lower, upper }
 }

@@ -9,8 +9,7 @@ ghost use Rattle.idriss_theory.specs.Promise.{SigmaEnds};
 ghost use Rattle.idriss_theory.specs.Evaluation.{period_term_of, sigma_pair_of, sigma_of};
 ghost use Rattle.idriss_theory.specs.Sizes.{period_term_most};
 
-use interval_theory::{Ends };
-use order::{max, min};
+use interval_theory::Ends;
 
 // 0.035 ln(a/b), by the engine's own logarithm.
 fn period_term(a: u64, b: u64) -> Ends<u64>
@@ -49,7 +48,7 @@ pub fn sigma(period: u16, magnitude: u16) -> Ends<i64>
     ensures value { result ≡ sigma_of period magnitude }
     ensures sigma_ends { SigmaEnds period magnitude result }
 {
-    let m = min(max(magnitude as u64, 500), 750);
+    let m = (magnitude as u64).clamp(500, 750);
     if period <= 50 {
         return clamped_sigma(50, m);
     }

@@ -8,7 +8,9 @@ ghost use Rattle.interpolation_theory.specs.Evaluation.{interpolated_of, Interpo
 use interval::between;
 use interval_theory::{Ends, SignedPair};
 
-// What `above` exceeds `below` by, times t/u, rounded down.
+// What `above` exceeds `below` by, times t/u, rounded down. The test spares the division, which saturating_sub would
+// leave to be made.
+#[tactic(auto, unfolding(interpolation_theory::specs::Evaluation::part_down))]
 fn part_down(above: u64, below: u64, t: u64, u: u64) -> u64
     requires { PartDomain above below t u }
     ensures { (result ≡ part_down above below t u) × (result ≤ 2 ^ 62) }

@@ -3,17 +3,27 @@
 #![tactic(auto)]
 
 ghost use Rattle.std.specs.Prelude.{◌≡◌, ◌^◌, ◌<◌};
+ghost use Rattle.std.specs.Ordering.{ord_min, ord_max};
 ghost use Rattle.interval_theory.specs.Natural.{MultipleDomain, ProductDomain, QuotientDomain, SumDomain, multiple_of};
-ghost use Rattle.interval_theory.specs.Natural.{product_of, quotient_of, sum_of, hull_of};
-ghost use Rattle.interval_theory.specs.Signed.{Moderate, TimesDomain, SmallerThan, plus_of, minus_of, times_of};
+ghost use Rattle.interval_theory.specs.Natural.{exactly, product_of, quotient_of, sum_of};
+ghost use Rattle.interval_theory.specs.Signed.{Moderate, TimesDomain, plus_of, minus_of, times_of};
 ghost use Rattle.interval_theory.specs.Signed.{between_of};
-ghost use Rattle.interval_theory.specs.Signed.{ends_of, lesser, greater, signed_hull_of};
+ghost use Rattle.interval_theory.specs.Signed.{ends_of};
 
 use interval_theory::{Ends, SignedPair};
-use order::{max, min};
-use signed::difference;
+
+// The steps are functions and no methods or operators: an impl stands in the crate of its type, and interval_theory, as
+// each NAME_theory, holds no functions.
+
+// Equal ends.
+pub fn exactly(n: u64) -> Ends<u64>
+    ensures { result ≡ exactly n }
+{
+    Ends { low: n, high: n }
+}
 
 // c/20,000,000 of what lies between e's ends.
+#[tactic(auto, unfolding(interval_theory::specs::Natural::multiple_of))]
 pub fn multiple(c: u64, e: Ends<u64>) -> Ends<u64>
     requires { MultipleDomain c e }
     ensures { result ≡ multiple_of c e }
@@ -25,6 +35,7 @@ pub fn multiple(c: u64, e: Ends<u64>) -> Ends<u64>
 }
 
 // What lies between a's ends times what lies between b's.
+#[tactic(auto, unfolding(interval_theory::specs::Natural::product_of))]
 pub fn product(a: Ends<u64>, b: Ends<u64>) -> Ends<u64>
     requires { ProductDomain a b }
     ensures { result ≡ product_of a b }
@@ -36,6 +47,7 @@ pub fn product(a: Ends<u64>, b: Ends<u64>) -> Ends<u64>
 }
 
 // What lies between a's ends over what lies between b's, which are above zero.
+#[tactic(auto, unfolding(interval_theory::specs::Natural::quotient_of))]
 pub fn quotient(a: Ends<u64>, b: Ends<u64>) -> Ends<u64>
     requires { QuotientDomain a b }
     ensures { result ≡ quotient_of a b }
@@ -47,6 +59,7 @@ pub fn quotient(a: Ends<u64>, b: Ends<u64>) -> Ends<u64>
 }
 
 // What lies between a's ends and what lies between b's, added.
+#[tactic(auto, unfolding(interval_theory::specs::Natural::sum_of))]
 pub fn sum(a: Ends<u64>, b: Ends<u64>) -> Ends<u64>
     requires { SumDomain a b }
     ensures { result ≡ sum_of a b }
@@ -58,16 +71,18 @@ pub fn sum(a: Ends<u64>, b: Ends<u64>) -> Ends<u64>
 }
 
 // From the lesser low end to the greater high end.
-pub fn hull(a: Ends<u64>, b: Ends<u64>) -> Ends<u64>
-    ensures { result ≡ hull_of a b }
+pub fn hull<T: Ord + Copy>(a: Ends<T>, b: Ends<T>) -> Ends<T>
+    ensures low { result.low ≡ ord_min T.cmp a.low b.low }
+    ensures high { result.high ≡ ord_max T.cmp a.high b.high }
 {
     Ends {
-        low: min(a.low, b.low),
-        high: max(a.high, b.high),
+        low: a.low.min(b.low),
+        high: a.high.max(b.high),
     }
 }
 
 // Two signed pairs added.
+#[tactic(auto, unfolding(interval_theory::specs::Signed::plus_of))]
 pub fn plus(a: SignedPair, b: SignedPair) -> SignedPair
     requires { Moderate a × Moderate b }
     ensures { result ≡ plus_of a b }
@@ -79,6 +94,7 @@ pub fn plus(a: SignedPair, b: SignedPair) -> SignedPair
 }
 
 // a − b.
+#[tactic(auto, unfolding(interval_theory::specs::Signed::minus_of))]
 pub fn minus(a: SignedPair, b: SignedPair) -> SignedPair
     requires { Moderate a × Moderate b }
     ensures { result ≡ minus_of a b }
@@ -90,6 +106,7 @@ pub fn minus(a: SignedPair, b: SignedPair) -> SignedPair
 }
 
 // A signed pair times what lies between e's ends.
+#[tactic(auto, unfolding(interval_theory::specs::Signed::times_of))]
 pub fn times(a: SignedPair, e: Ends<u64>) -> SignedPair
     requires { TimesDomain a e }
     ensures { result ≡ times_of a e }
@@ -101,46 +118,19 @@ pub fn times(a: SignedPair, e: Ends<u64>) -> SignedPair
 }
 
 // From a − b to c − d.
+#[tactic(auto, using(signed_theory::proofs::Laws::subtracted), unfolding(interval_theory::specs::Signed::between_of))]
 pub fn between(a: u64, b: u64, c: u64, d: u64) -> Ends<i64>
     requires { (a < 2 ^ 63) × (b < 2 ^ 63) × (c < 2 ^ 63) × (d < 2 ^ 63) }
     ensures { result ≡ between_of a b c d }
 {
     Ends {
-        low: difference(a, b),
-        high: difference(c, d),
-    }
-}
-
-fn lesser(a: i64, b: i64) -> i64
-    ensures { result ≡ lesser a b }
-{
-    if a <= b {
-        return a;
-    }
-    b
-}
-
-fn greater(a: i64, b: i64) -> i64
-    ensures { result ≡ greater a b }
-{
-    if a <= b {
-        return b;
-    }
-    a
-}
-
-// From the lesser low end to the greater high end.
-pub fn signed_hull(a: Ends<i64>, b: Ends<i64>) -> Ends<i64>
-    requires { SmallerThan (2 ^ 63) a × SmallerThan (2 ^ 63) b }
-    ensures { result ≡ signed_hull_of a b }
-{
-    Ends {
-        low: lesser(a.low, b.low),
-        high: greater(a.high, b.high),
+        low: a as i64 - b as i64,
+        high: c as i64 - d as i64,
     }
 }
 
 // The ends of a signed pair.
+#[tactic(auto, unfolding(interval_theory::specs::Signed::ends_of))]
 pub fn ends(a: SignedPair) -> Ends<i64>
     requires { Moderate a }
     ensures { result ≡ ends_of a }

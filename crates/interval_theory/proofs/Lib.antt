@@ -3,3 +3,4 @@ pub mod NaturalBounds
 pub mod Bounded
 pub mod SignedValues
 pub mod SignedBounds
+pub mod Hulls

@@ -12,6 +12,7 @@ use logarithm_tables as table;
 use logarithm_theory::Scaled;
 
 // a/b, rounded down.
+#[tactic(auto, unfolding(logarithm_theory::specs::Evaluation::scaled_of))]
 fn scale(a: u64, b: u64) -> Scaled
     requires { LnDomain a b }
     ensures { result ≡ scaled_of a b }
@@ -25,6 +26,7 @@ fn scale(a: u64, b: u64) -> Scaled
 }
 
 // ln(p/2^61) in units of 10^-9/4096, from below: d − d²/2 of d = p/2^61 − 1.
+#[tactic(auto, unfolding(logarithm_theory::specs::Evaluation::near_one_of))]
 fn near_one(p: u64) -> u64
     requires { NearOne p }
     ensures { result ≡ near_one_of p }
@@ -35,6 +37,7 @@ fn near_one(p: u64) -> u64
 }
 
 // ln(y/2^35) in units of 10^-9/4096, from below: two factors bring y near 1, and what is left is near 0.
+#[tactic(auto, unfolding(logarithm_theory::specs::Evaluation::mantissa_ln_of))]
 fn mantissa_ln(y: u64) -> u64
     requires { Mantissa y }
     ensures { result ≡ mantissa_ln_of y }
@@ -47,6 +50,7 @@ fn mantissa_ln(y: u64) -> u64
 }
 
 // The ends of a scaled number's logarithm; its two parts pass in registers.
+#[tactic(auto, unfolding(logarithm_theory::specs::Evaluation::scaled_ln_of))]
 fn scaled_ln(octave: u64, mantissa: u64) -> Ends<u64>
     requires { Normal (scaled_by octave mantissa) }
     ensures { result ≡ scaled_ln_of (scaled_by octave mantissa) }
@@ -59,6 +63,7 @@ fn scaled_ln(octave: u64, mantissa: u64) -> Ends<u64>
 }
 
 // ln(a/b), for 1 ≤ b ≤ a < 2^29.
+#[tactic(auto, unfolding(logarithm_theory::specs::Evaluation::ln_of))]
 pub fn ln(a: u64, b: u64) -> Ends<u64>
     requires { LnDomain a b }
     ensures value { result ≡ ln_of a b }
@@ -81,7 +86,8 @@ pub fn ln_hundredths(a: u64) -> Ends<u64>
     scaled_ln(s.octave, s.mantissa)
 }
 
-// The greatest whole number whose square is at most n, by Newton's steps down from above.
+// The greatest whole number whose square is at most n, by Newton's steps down from above: a few are enough, where the
+// library's isqrt halves an interval 32 times.
 fn whole_root(n: u64) -> u64
     requires { n < 2 ^ 63 }
     ensures { result ≡ whole_root n }
@@ -95,6 +101,7 @@ fn whole_root(n: u64) -> u64
 }
 
 // The root of x lies from r/131072 to (r + 1)/131072, r the result.
+#[tactic(auto, unfolding(logarithm_theory::specs::Evaluation::root_of))]
 pub fn root(x: u64) -> u64
     requires { x < 2 ^ 29 }
     ensures value { result ≡ root_of x }

@@ -1,59 +1,63 @@
 // The page that the program prints, as bytes.
-#![tactic(auto)]
+#![tactic(auto, using(report_theory::proofs::LineLaws::page_steps))]
 
-ghost use Rattle.std.specs.Prelude.{◌≡◌, ◌+◌, ◌*◌, ◌≤◌, length, take};
+ghost use Rattle.std.specs.Prelude.{◌≡◌, ◌+◌, ◌*◌, ◌≤◌, ◌++◌, length, take};
+ghost use Rattle.arrayvec.specs.ArrayVec.{array_vec_len};
 ghost use Rattle.report_theory.specs.Lines.{line_of, last_line_of};
 ghost use Rattle.enclosures_theory.specs.Sizes.{bytes_taken, lines_most, line_most, last_most, page_most};
 ghost use Rattle.enclosures_theory.specs.Output.{ended, lines_of};
-ghost use Rattle.enclosures_theory.specs.Steps.{Added, Gone};
+ghost use Rattle.enclosures_theory.specs.Steps.{Gone};
 
-use enclosures_theory::Printed;
-use engine_theory::{Answer, NextAnswer};
-use error_line::put_text;
+use arrayvec::ArrayVec;
+use decimal::put_whole;
+use engine_theory::Answer;
+use error_line::push_text;
+use lines::{push_last_line, push_line};
 
-// Puts the line of an answer and its end at a place, and answers the place after it.
-fn put_line(out: &mut [u8], at: usize, position: u64, a: Answer) -> usize
-    requires { at + line_most ≤ length out.old }
-    ensures { Added (ended (line_of position a)) at out.old result out.new }
+// Room for all that is printed, `page_most`.
+pub const PAGE_MOST: usize = 75_849;
+
+type Page = ArrayVec<u8, PAGE_MOST>;
+
+// Puts the line of an answer, and its end.
+fn push_answer(page: &mut Page, position: u64, a: Answer)
+    requires { array_vec_len page.old + line_most ≤ PAGE_MOST }
+    ensures { page.new.items ≡ page.old.items ++ ended (line_of position a) }
 {
-    let n = report::line(position, a, &mut out[at..]);
-    out[at + n] = 10;
-    at + n + 1
+    push_line(page, position, a);
+    page.push(b'\n');
 }
 
-// The same of the last line and its end.
-fn put_last_line(out: &mut [u8], at: usize, count: u64) -> usize
-    requires { at + last_most ≤ length out.old }
-    ensures { Added (ended (last_line_of count)) at out.old result out.new }
+// Puts the last line, and its end.
+fn push_count(page: &mut Page, count: u64)
+    requires { array_vec_len page.old + last_most ≤ PAGE_MOST }
+    ensures { page.new.items ≡ page.old.items ++ ended (last_line_of count) }
 {
-    let n = report_end::last_line(count, &mut out[at..]);
-    out[at + n] = 10;
-    at + n + 1
+    push_last_line(page, count);
+    page.push(b'\n');
 }
 
-// Puts a line for each record of s, up to the first that is refused, after what stands before a place.
-fn put_lines(s: &[u8], out: &mut [u8], start: usize) -> Printed
-    requires { (start + line_most * lines_most ≤ length out.old) × (length s.now ≤ bytes_taken) }
-    ensures { Gone (take start out.old) s.now result out.new }
+// Puts a line for each record of s, up to the first that is refused, and answers how many lines these are.
+fn push_answers(page: &mut Page, s: &[u8]) -> u64
+    requires { (array_vec_len page.old + line_most * lines_most ≤ PAGE_MOST) × (length s.now ≤ bytes_taken) }
+    ensures { Gone page.old.items s.now result page.new.items }
 {
-    let mut at: usize = 0;
+    let mut rest = s;
     let mut count: u64 = 0;
-    let mut next = start;
-    while at < s.len() {
+    while !rest.is_empty() {
         count += 1;
-        let r = engine::answer_next(&s[at..]);
-        match r {
-            NextAnswer::Enclosed(e, n) => {
-                next = put_line(out, next, count, Answer::Enclosed(e));
-                at += n;
+        match engine::answer_next(rest) {
+            Ok((e, n)) => {
+                push_answer(page, count, Ok(e));
+                rest = &rest[n..];
             }
-            NextAnswer::Refused(k) => {
-                next = put_line(out, next, count, Answer::Refused(k));
-                return Printed { count, next };
+            Err(refusal) => {
+                push_answer(page, count, Err(refusal));
+                return count;
             }
         }
     }
-    Printed { count, next }
+    count
 }
 
 // Puts all that is printed for the bytes of s, and answers how many bytes it has.
@@ -62,7 +66,9 @@ pub fn put_page(s: &[u8], out: &mut [u8]) -> usize
     ensures out_after { take result out.new ≡ lines_of s.now }
     ensures upper_bound { result ≤ length out.new }
 {
-    let start = put_text(out, 0, b"enclosures\n");
-    let p = put_lines(s, out, start);
-    put_last_line(out, p.next, p.count)
+    let mut page = Page::new();
+    push_text(&mut page, b"enclosures\n");
+    let count = push_answers(&mut page, s);
+    push_count(&mut page, count);
+    put_whole(page.as_slice(), out)
 }

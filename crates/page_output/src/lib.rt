@@ -17,7 +17,7 @@ pub fn put_output(got: Transfer, bytes: &[u8], out: &mut [u8]) -> usize
     ensures upper_bound { result ≤ length out.new }
 {
     match got {
-        Transfer::Complete(n) => put_page(&bytes[..n], out),
-        Transfer::Failed(_) => 0,
+        Ok(n) => put_page(&bytes[..n], out),
+        Err(_) => 0,
     }
 }

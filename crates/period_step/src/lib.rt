@@ -8,7 +8,8 @@ ghost use Rattle.interpolation_theory.specs.Steps.{neighbours_of, step_of};
 ghost use Rattle.interpolation_theory.specs.Evaluation.{no_pair};
 
 use interpolation_theory::{Neighbours, Step};
-use interval_theory::{Ends, SignedPair};
+use interval::exactly;
+use interval_theory::SignedPair;
 
 // Two neighbouring rows by their periods, T1 and T2. Where both are known, the compiler works the logarithm out.
 pub fn neighbours(lower: u16, upper: u16) -> Neighbours
@@ -42,7 +43,7 @@ pub fn no_pair() -> SignedPair
     ensures { result ≡ no_pair }
 {
     SignedPair {
-        gain: Ends { low: 0, high: 0 },
-        loss: Ends { low: 0, high: 0 },
+        gain: exactly(0),
+        loss: exactly(0),
     }
 }

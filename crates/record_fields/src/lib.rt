@@ -28,6 +28,7 @@ fn word_if(s: &[u8], stands: bool, at: usize) -> Option<u16>
 }
 
 // The scenario of the record at the front of s.
+#[tactic(auto, using(record_theory::proofs::FieldLaws::fields_fit))]
 pub fn fields(s: &[u8]) -> Scenario
     requires { Complete s.now }
     ensures { result ≡ scenario_in s.now }
@@ -57,6 +58,7 @@ pub fn fields(s: &[u8]) -> Scenario
 }
 
 // A field of x that stands in the map m has its absent number; a distance has none.
+#[tactic(auto, using(record_theory::proofs::FieldLaws::absent_written_is))]
 pub fn absent_written(m: u8, x: Scenario) -> bool
     requires { StandBy m x }
     ensures { result ≡ absent_written layout m x }

@@ -15,7 +15,7 @@ pub const ABSENT_MECHANISM: u8 = 9;
 
 pub const ABSENT_PERIOD: u16 = 0;
 
-// n, and k more where b holds.
+// n, and k more where b holds. It stays a function of its own: the edits one_more and k_for_n speak of it.
 pub fn more_if(n: usize, b: bool, k: usize) -> usize
     requires { n + k < 256 }
     ensures { (result ≡ n + cond b k 0) × (result ≤ n + k) }
@@ -24,6 +24,7 @@ pub fn more_if(n: usize, b: bool, k: usize) -> usize
 }
 
 // The checks of the map byte.
+#[tactic(auto, using(record_theory::proofs::MapLaws::map_checked))]
 pub fn map_check(m: u8) -> Result<(), Refusal>
     ensures { result ≡ check_with (map_refusal m) }
 {
@@ -40,6 +41,7 @@ pub fn map_check(m: u8) -> Result<(), Refusal>
 }
 
 // The length of the record whose map byte is m.
+#[tactic(auto, using(record_theory::proofs::FieldLaws::length_is))]
 pub fn record_length(m: u8) -> usize
     requires { map_refusal m ≡ 0 }
     ensures { result ≡ length_by m }

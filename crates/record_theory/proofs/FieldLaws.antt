@@ -3,11 +3,11 @@ use mathlib.Core.Path.{◌≡◌, refl, ap, ◌∙◌}
 use mathlib.Core.Bool.{Bool, true, false, not, cond, ◌&&◌, ◌||◌, or-false, and-not_self}
 use mathlib.Core.List.{List, [], ◌∷◌}
 use Rattle.std.specs.Prelude.{Option, Some, None}
-use Prim.Native.Nat.{ℕ, ◌+◌, ◌*◌}
+use Prim.Native.Nat.{ℕ, ◌+◌, ◌≤◌}
 use native.Mathlib.Nat.{add-zero}
 use native.Mathlib.Omega.{arith}
 use lib.Dec.{eqb}
-use lib.ListN.{get_or, take, drop}
+use lib.ListN.{length, get_or, take, drop}
 use lib.Seq.{drop-drop, get_or-drop}
 use Rattle.scenario_theory.specs.declared.Scenario.{Scenario}
 use Rattle.scenario_theory.specs.Distances.{rupture_of, projection_of, is_absent}
@@ -15,7 +15,7 @@ use Rattle.scenario_theory.proofs.DistanceLaws.{rupture_number_lem, projection_n
 use Rattle.record_theory.specs.Layout.{absent_velocity, absent_mechanism, absent_period, Field, layout, stands}
 use Rattle.record_theory.specs.Layout.{number_of, size_of, numbers_of, absent_written}
 use Rattle.record_theory.specs.Outcome.{map_in, scenario_in, length_by, map_refusal}
-use Rattle.record_theory.specs.Steps.{StandBy}
+use Rattle.record_theory.specs.Steps.{StandBy, Complete}
 use Rattle.record_theory.proofs.AbsentLaws.{is_absent_lem, bit_or}
 use Rattle.record_theory.proofs.MapLaws.{passed}
 
@@ -35,6 +35,10 @@ projection_at m = period_at m + cond (stands 5 m) 2 0
 pub length_is : (m : ℕ) → map_refusal m ≡ 0 → length_by m ≡ projection_at m + cond (stands 6 m) 2 0
 unfolding length_by size_of
 length_is m e = let p = passed m e in simp (p.model, p.magnitude) (omega arith)
+
+-- there are bytes for every field
+pub fields_fit : (s : List ℕ) → Complete s → projection_at (map_in s) + cond (stands 6 (map_in s)) 2 0 ≤ length s
+fields_fit s h = omega (arith, length_is (map_in s) h.passes)
 
 -- the number of so many bytes at a place
 abbrev pub number_at : ℕ → ℕ → List ℕ → ℕ
@@ -82,21 +86,13 @@ distances_read s e =
       projection = rw projection_number_lem (stands_by (stands 6 (map_in s)) _);
     })
 
--- a byte, and two
+-- a byte
 front_byte : (s : List ℕ) → number_of (take 1 s) ≡ get_or s 0 0
 front_byte [] = refl
 front_byte (a ∷ s) = omega arith
 
-front_word : (s : List ℕ) → number_of (take 2 s) ≡ get_or s 0 0 + 256 * get_or s 1 0
-front_word [] = refl
-front_word (a ∷ []) = omega arith
-front_word (a ∷ b ∷ s) = omega arith
-
 pub byte_at : (s : List ℕ) (at : ℕ) → number_at 1 at s ≡ get_or s at 0
 byte_at s at = front_byte (drop at s) ∙ (get_or-drop at s 0 0 ∙ ap (λ (i : ℕ). get_or s i 0) (add-zero at))
-
-pub word_at : (s : List ℕ) (at : ℕ) → number_at 2 at s ≡ get_or s at 0 + 256 * get_or s (at + 1) 0
-word_at s at = rw (front_word (drop at s), get_or-drop at s 0 0, get_or-drop at s 1 0, add-zero at)
 
 -- a field that stands with its absent number, one of three; a distance has none
 pub absent_written_is : (m : ℕ) (x : Scenario) → StandBy m x →

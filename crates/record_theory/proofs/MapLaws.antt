@@ -1,5 +1,5 @@
 -- The checks of the map byte. What holds of every byte is one test that antt computes over all 256.
-use mathlib.Core.Path.{◌≡◌, ◌∙◌}
+use mathlib.Core.Path.{◌≡◌, sym, ◌∙◌}
 use mathlib.Core.Bool.{true, not, and-eq-true_iff, ◌&&◌}
 use Prim.Native.Nat.{ℕ, ◌%◌, ◌<◌, ◌≤◌}
 use native.Mathlib.Omega.{arith}
@@ -20,8 +20,9 @@ all_checked : T (all_below 256 (λ m. eqb (checked m) (map_refusal m)))
 unfolding all_below map_refusal
 all_checked = tt
 
-pub map_checked : (m : ℕ) → m < 256 → checked m ≡ map_refusal m
-map_checked m h = eqb→eq (checked m) (map_refusal m) (below 256 (λ m. eqb (checked m) (map_refusal m)) all_checked m h)
+pub map_checked : (m : ℕ) → m < 256 → map_refusal m ≡ checked m
+map_checked m h =
+    sym (eqb→eq (checked m) (map_refusal m) (below 256 (λ m. eqb (checked m) (map_refusal m)) all_checked m h))
 
 -- the number is one of document 01's
 pub map_numbered : (m : ℕ) → map_refusal m ≤ 15
@@ -46,4 +47,4 @@ passed m e =
     record { model = a.0; magnitude = a.1 }
 
 pub map_small : (m : ℕ) → m < 256 → map_refusal m ≡ 0 → m < 128
-map_small m h e = leb-false 128 m (not_when 7 _ (none_of (8 when leb 128 m) _ (map_checked m h ∙ e)).0)
+map_small m h e = leb-false 128 m (not_when 7 _ (none_of (8 when leb 128 m) _ (sym (map_checked m h) ∙ e)).0)

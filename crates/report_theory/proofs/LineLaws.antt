@@ -1,84 +1,94 @@
 -- The line of an answer in the parts that the code puts, and what is left of the lent bytes.
-use mathlib.Core.Path.{◌≡◌, refl, ap}
+use mathlib.Core.Path.{◌≡◌}
 use mathlib.Core.Bool.{Bool, true, false, cond}
 use mathlib.Core.List.{List, [], ◌∷◌, ◌++◌, append_assoc, append-nil}
-use Prim.Native.Nat.{ℕ, ◌+◌, ◌≤◌, ◌<◌}
+use Prim.Native.Nat.{ℕ, ◌≤◌}
 use native.Mathlib.Omega.{arith}
-use borrow.Author.Tests.{lt-ltb, le-ltb}
-use lib.ListN.{length, length-append}
-use Rattle.stores_theory.specs.Stores.{Put}
-use Rattle.stores_theory.proofs.StoreLaws.{sets_front}
+use borrow.Author.Tests.{le-ltb}
+use lib.ListN.{length, take, drop, length-append}
+use lib.Seq.{take_at}
+use mir.ValLaws.{to_z-of_z}
+use lib.IntN.{ℤ, pos, nat_abs}
+use lib.Signed.{lt_z}
+use Rattle.interval_theory.specs.declared.Ends.{Ends}
 use Rattle.engine_theory.specs.declared.Enclosure.{Enclosure}
-use Rattle.engine_theory.specs.declared.Answer.{Answer}
-use Rattle.engine_theory.specs.declared.Answer.TheVariants as A
-use Rattle.report_theory.specs.declared.Words.{Words}
+use Rattle.engine_theory.specs.Promise.{Answer}
+use Rattle.std.specs.Prelude.{Ok, Err}
+use Rattle.scenario_theory.specs.declared.Refusal.{Refusal}
+use Rattle.scenario_theory.specs.Numbers.{refusal_number}
 use Rattle.report_theory.specs.Text.{decimal, signed_decimal, spaced}
 use Rattle.report_theory.specs.Lines.{line_of, last_line_of, length_on, bytes_after}
-use Rattle.report_theory.specs.Steps.{words_for, sign_bytes, word_bytes, both_bytes, head_bytes}
+use Rattle.report_theory.specs.Steps.{ends_bytes}
 use Rattle.report_theory.proofs.TextLaws.{decimal_most}
 
 -- ---- the parts of a line
 
-sign_is : (minus : Bool) → sign_bytes minus ≡ 32 ∷ cond minus (45 ∷ []) []
-sign_is true = refl
-sign_is false = refl
-
--- the line of four ends, where they have been split
-pub enclosed_parts : {m s : Words} (position : ℕ) (e : Enclosure) → m ≡ words_for e.median → s ≡ words_for e.sigma →
-    line_of position (A.Enclosed e) ≡ (head_bytes position 69 ++ both_bytes m) ++ both_bytes s
-unfolding line_of spaced signed_decimal
-enclosed_parts position e median sigma = rw (median, sigma) (simp (sign_is, append_assoc, append-nil))
-
--- and how long it is, of parts that have been counted
-pub enclosed_size : {m s : Words} {p a b : ℕ} (position : ℕ) (e : Enclosure) → m ≡ words_for e.median →
-    s ≡ words_for e.sigma → p ≡ length (decimal position) → a ≡ length (both_bytes m) → b ≡ length (both_bytes s) →
-    p + 2 + a + b ≡ length (line_of position (A.Enclosed e))
-enclosed_size position e median sigma hp ha hb =
-    rw (enclosed_parts position e median sigma, length-append, length-append, length-append) (omega arith)
-
--- the line of a refusal
-pub refused_parts : (position k : ℕ) →
-    line_of position (A.Refused k) ≡ head_bytes position 82 ++ word_bytes (record { minus = false; abs = k })
+pub enclosed_parts : (position : ℕ) (e : Enclosure ℤ) →
+    line_of position (Ok e)
+    ≡ decimal position ++ (32 ∷ 69 ∷ []) ++ ends_bytes e.median ++ ends_bytes e.sigma
 unfolding line_of spaced
-refused_parts position k = simp (append_assoc, append-nil)
+enclosed_parts position e = simp (append_assoc, append-nil)
 
-pub refused_size : {p a : ℕ} (position k : ℕ) → p ≡ length (decimal position) →
-    a ≡ length (word_bytes (record { minus = false; abs = k })) → p + 2 + a ≡ length (line_of position (A.Refused k))
-refused_size position k hp ha = rw (refused_parts position k) (simp length-append (omega arith))
+pub refused_parts : (position : ℕ) (r : Refusal) →
+    line_of position (Err r) ≡ decimal position ++ (32 ∷ 82 ∷ 32 ∷ []) ++ decimal (refusal_number r)
+unfolding line_of spaced
+refused_parts position r = simp (append_assoc, append-nil)
 
 -- ---- on lent bytes: what is said of a line of n bytes
 
 module _ (line lent : List ℕ) {n : ℕ} where
-  pub too_short : length lent < n → n ≡ length line → (0 ≡ length_on line lent) × (lent ≡ bytes_after line lent)
+  -- where it fits, it is what is there
+  pub fitting : {after : List ℕ} → length line ≤ length lent → n ≡ length_on line lent → after ≡ bytes_after line lent →
+      (take n after ≡ line) × (n ≤ length after)
   unfolding length_on bytes_after
-  too_short h size = let short = lt-ltb (length lent) (length line) (omega arith) in (rw short refl, rw short refl)
-
-  pub written : {next : ℕ} {parts after : List ℕ} → line ≡ parts → Put 0 parts lent next after → n ≤ length lent →
-      n ≡ length line → (n ≡ length_on line lent) × (after ≡ bytes_after line lent)
-  unfolding length_on bytes_after
-  written {parts = parts} is p h size =
-      let long = le-ltb (length lent) (length line) (omega arith) in
-      (rw long size, rw (long, is, p.bytes) (sets_front lent parts (omega (arith, ap length is))))
+  fitting {after} h count is =
+      let long = le-ltb (length lent) (length line) h in
+      let size : n ≡ length line = rw long at count in
+      let bytes : after ≡ line ++ drop (length line) lent = rw long at is in
+      rw bytes (
+        take_at line (drop (length line) lent) n (omega arith),
+        omega (arith, length-append line (drop (length line) lent)),
+      )
 
 -- ---- sizes
 
-word_most : (minus : Bool) (n : ℕ) → length (sign_bytes minus ++ decimal n) ≤ 22
-word_most true n = omega (arith, decimal_most n)
-word_most false n = omega (arith, decimal_most n)
+sign_most : (minus : Bool) → length {A = ℕ} (cond minus (45 ∷ []) []) ≤ 1
+sign_most true = omega arith
+sign_most false = omega arith
 
-both_most : (w : Words) → length (both_bytes w) ≤ 44
-both_most w =
-    rw length-append (omega (arith, word_most w.low.minus w.low.abs, word_most w.high.minus w.high.abs))
+pub signed_most : (z : ℤ) → length (signed_decimal z) ≤ 21
+unfolding signed_decimal
+signed_most z = omega (arith, sign_most (lt_z z (pos 0)), decimal_most (nat_abs z), length-append {A = ℕ})
+
+pub ends_most : (e : Ends ℤ) → length (ends_bytes e) ≤ 44
+unfolding spaced
+ends_most e = omega (arith, signed_most e.low, signed_most e.high, length-append {A = ℕ})
+
+-- what a line is and how long it is at most, after each part of it that is put
+pub ruleset lines = (
+  append_assoc,
+  append-nil,
+  length-append,
+  decimal_most,
+  signed_most,
+  ends_most,
+  enclosed_parts,
+  refused_parts,
+  to_z-of_z,
+)
 
 -- no line is longer than this
 pub line_most_lem : (position : ℕ) (a : Answer) → length (line_of position a) ≤ 110
-line_most_lem position (A.Enclosed e) =
-    let median = both_most (words_for e.median) in
-    let sigma = both_most (words_for e.sigma) in
-    rw (← enclosed_size position e refl refl refl refl refl) (omega (arith, decimal_most position))
-line_most_lem position (A.Refused k) =
-    rw (← refused_size position k refl refl) (omega (arith, decimal_most position, decimal_most k))
+line_most_lem position (Ok e) =
+    rw (enclosed_parts position e)
+    (omega (arith, decimal_most position, ends_most e.median, ends_most e.sigma, length-append {A = ℕ}))
+line_most_lem position (Err r) =
+    rw (refused_parts position r)
+    (omega (arith, decimal_most position, decimal_most (refusal_number r), length-append {A = ℕ}))
 
 pub last_line_most : (count : ℕ) → length (last_line_of count) ≤ 24
 unfolding last_line_of
 last_line_most count = omega (arith, decimal_most count)
+
+-- how long each line is at most
+pub ruleset page_steps = (append_assoc, length-append, line_most_lem, last_line_most)

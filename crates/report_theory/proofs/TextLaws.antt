@@ -52,6 +52,9 @@ more_digits n least most = let room : 2 ^ 64 ≤ 10 ^ places = omega arith in st
 pub more_length : (n : ℕ) → 10 ≤ n → n < 2 ^ 64 → length (decimal n) ≡ length (decimal (n / 10)) + 1
 more_length n least most = rw (more_digits n least most) (length-append (decimal (n / 10)) ((48 + n % 10) ∷ []))
 
+-- what the digits of a number are and how many, by those of its tenth
+pub ruleset digit_steps = (decimal_most, one_digit, more_digits, more_length)
+
 -- ---- no digit is lost
 
 -- the number that digits make, after the value v of those before them

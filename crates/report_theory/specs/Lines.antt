@@ -1,15 +1,14 @@
 -- The line of an answer. Document 01, 'Records and doubles', on the program: "one line for each record (position from
 -- 1, E and four ends in the order of the answer, or R and the number, single spaces)".
-use Rattle.std.specs.Prelude.{cond, List, [], ◌∷◌, ◌++◌, map, ℕ, ltb, length, drop}
-use Rattle.engine_theory.specs.declared.Answer.{Answer}
-use Rattle.engine_theory.specs.declared.Answer.TheVariants as A
-use Rattle.engine_theory.specs.Promise.{shown_ends}
+use Rattle.std.specs.Prelude.{cond, List, [], ◌∷◌, ◌++◌, map, ℕ, ltb, length, drop, Ok, Err}
+use Rattle.scenario_theory.specs.Numbers.{refusal_number}
+use Rattle.engine_theory.specs.Promise.{Answer, shown_ends}
 use Rattle.report_theory.specs.Text.{ascii, decimal, signed_decimal, spaced}
 
 -- "E and four ends in the order of the answer, or R and the number"; 69 is the byte of E, 82 that of R
 abbrev pub words_of : Answer → List (List ℕ)
-words_of (A.Enclosed e) = (69 ∷ []) ∷ map signed_decimal (shown_ends (A.Enclosed e))
-words_of (A.Refused k) = (82 ∷ []) ∷ (decimal k ∷ [])
+words_of (Ok e) = (69 ∷ []) ∷ map signed_decimal (shown_ends (Ok e))
+words_of (Err r) = (82 ∷ []) ∷ (decimal (refusal_number r) ∷ [])
 
 -- the line, without its line end
 unfoldable pub line_of : ℕ → Answer → List ℕ

@@ -1,11 +1,11 @@
 -- What ties a signed number of the code to ℕ: a difference of two natural numbers, cast and stored.
-use mathlib.Core.Path.{◌≡◌, refl}
+use mathlib.Core.Path.{◌≡◌, refl, ap}
 use mathlib.Core.Bool.{Bool}
 use Prim.Native.Nat.{ℕ, zero, suc, ◌+◌, ◌-◌, ◌^◌, ◌<◌, ◌≤◌}
 use native.Mathlib.Decide.{dec_lt}
 use native.Mathlib.Omega.{arith}
 use borrow.Author.Tests.{lt-ltb, le-ltb}
-use lib.IntN.{ℤ, pos, negsuc, neg_ℤ, neg_ℤ-neg_ℤ, nat_abs, ◌+ℤ◌, +ℤ_idl, +ℤ_one, ◌-ℤ◌, sub_ℕ}
+use lib.IntN.{ℤ, pos, negsuc, nat_abs, ◌-ℤ◌, sub_ℕ}
 use lib.Signed.{le_z}
 use mir.Syntax.{w64}
 use mir.Val.{to_z, of_z, SFits}
@@ -30,12 +30,6 @@ less a b h = simp (lt-ltb a b h)
 pub more : (a b : ℕ) → b ≤ a → sub_ℕ a b ≡ pos (a - b)
 more a b h = simp (le-ltb a b h)
 
--- b − a as an i64, negated
-pub opposite : (a b : ℕ) → a < b → b < a + 2 ^ 63 → pos 0 -ℤ to_z w64 (b - a) ≡ sub_ℕ a b
-opposite a b h s =
-    let e : b - a ≡ suc (b - suc a) = omega arith in
-    rw (cast (b - a) (omega arith), +ℤ_idl, e, less a b h) refl
-
 -- a difference is not greater in absolute value than what both numbers are below
 pub difference_small : (a b n : ℕ) → a < b + n → b < a + n → nat_abs (sub_ℕ a b) < n
 difference_small a b n ha hb = elim (dec_lt a b) [
@@ -43,24 +37,19 @@ difference_small a b n ha hb = elim (dec_lt a b) [
   | no h ↦ rw (more a b (omega arith)) (omega arith)
 ]
 
+-- a − b, as a difference of two signed numbers
+taken : (a b : ℕ) → pos a -ℤ pos b ≡ sub_ℕ a b
+taken a zero = rw (more a zero (omega arith)) (ap pos (omega arith))
+taken a (suc b) = refl
+
 -- a difference whose absolute value is below 2 ^ 63, stored and read back
 pub stored : {z : ℤ} (a b : ℕ) → a < b + 2 ^ 63 → b < a + 2 ^ 63 → z ≡ sub_ℕ a b → to_z w64 (of_z w64 z) ≡ sub_ℕ a b
 stored a b ha hb e = rw e (back (sub_ℕ a b) (difference_small a b (2 ^ 63) ha hb))
 
--- ---- the absolute value of a number below zero
-
--- −(n + 1) + 1
-up_to : (n : ℕ) → negsuc n +ℤ pos 1 ≡ neg_ℤ (pos n)
-up_to zero = refl
-up_to (suc n) = +ℤ_one (negsuc (suc n))
-
--- what each step of −(z + 1) gives, for z = −(n + 1)
-pub plus_one : (n : ℕ) → n < 2 ^ 63 → nat_abs (negsuc n +ℤ pos 1) < 2 ^ 63
-plus_one zero h = h
-plus_one (suc n) h = rw (up_to (suc n)) (omega arith)
-
-pub negated : (n : ℕ) → n < 2 ^ 63 → pos 0 -ℤ to_z w64 (of_z w64 (negsuc n +ℤ pos 1)) ≡ pos n
-negated n h = rw (back (negsuc n +ℤ pos 1) (plus_one n h), up_to n, neg_ℤ-neg_ℤ (pos n), +ℤ_idl) refl
+-- a − b, of two numbers below 2 ^ 63 that are cast to i64, stored and read back
+pub subtracted : (a b : ℕ) → a < 2 ^ 63 → b < 2 ^ 63 → to_z w64 (of_z w64 (to_z w64 a -ℤ to_z w64 b)) ≡ sub_ℕ a b
+subtracted a b ha hb =
+    rw (cast a ha, cast b hb) (stored a b (omega arith) (omega arith) (taken a b))
 
 -- two numbers that a test compared
 pub compared : {a b : ℤ} {c : Bool} → SFits w64 a → SFits w64 b →

@@ -6,7 +6,7 @@ use native.Mathlib.Numerals.{add-one}
 use native.Mathlib.Omega.{arith}
 use native.Mathlib.Nat.{add-zero, zero-add, add-suc, suc-add}
 use lib.ListN.{length, set, drop, length-append}
-use lib.Seq.{sets, sets-eq, length-sets}
+use lib.Seq.{sets, sets-eq}
 use Rattle.stores_theory.specs.Stores.{Put}
 
 -- one run after another is one run
@@ -40,15 +40,3 @@ put_byte l at x = record { place = refl; bytes = refl }
 -- and so are two
 pub put_two : (l : List ℕ) (at x y : ℕ) → Put at (x ∷ y ∷ []) l (at + 2) (set (set l at x) (at + 1) y)
 put_two l at x y = record { place = refl; bytes = sets_two l at x y }
-
--- a run leaves the length as it was
-pub put_length : {a b : ℕ} {u l l1 : List ℕ} → Put a u l b l1 → length l1 ≡ length l
-put_length {a} {u = u} {l} p = rw p.bytes (length-sets l a u)
-
--- where two runs fit, the first does, and after it the second
-pub first_fits : (a : ℕ) (u v l : List ℕ) → a + length (u ++ v) ≤ length l → a + length u ≤ length l
-first_fits a u v l h = omega (arith, length-append u v)
-
-pub next_fits : {a b : ℕ} (u v : List ℕ) {l l1 : List ℕ} → a + length (u ++ v) ≤ length l → Put a u l b l1 →
-    b + length v ≤ length l1
-next_fits u v h p = omega (arith, length-append u v, put_length p)

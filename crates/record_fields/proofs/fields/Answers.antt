@@ -1,47 +1,19 @@
 use mathlib.Core.Path.{◌≡◌, sym}
 use mathlib.Core.Bool.{cond}
-use mathlib.Core.List.{List}
-use Prim.Native.Nat.{ℕ, ◌+◌, ◌≤◌}
 use native.Mathlib.Omega.{arith}
-use lib.ListN.{length, get_or}
+use lib.ListN.{get_or}
 use borrow.Author.Rules.{rules}
 use borrow.Author.Tests.{ne_eqb}
 use Rattle.scenario_theory.specs.Distances.{rupture_of, projection_of}
 use Rattle.record_theory.specs.Layout.{stands}
 use Rattle.record_theory.specs.Outcome.{map_in}
-use Rattle.record_theory.specs.Steps.{Complete}
 use Rattle.record_theory.proofs.AbsentLaws.{bit_or, mapped}
-use Rattle.record_theory.proofs.FieldLaws.{mechanism_at, projection_at, length_is, scenario_is, byte_at}
+use Rattle.record_theory.proofs.FieldLaws.{mechanism_at, fields_fit, scenario_is, byte_at}
 use Rattle.record_fields.proofs.fields.Goals as goal
 use Rattle.record_fields.proofs.fields.Goals.{then-mechanism, else-mechanism}
 
--- there are bytes for every field
-room : (s : List ℕ) → Complete s → projection_at (map_in s) + cond (stands 6 (map_in s)) 2 0 ≤ length s
-room s h = omega (arith, length_is (map_in s) h.passes)
-
 pub bounds-s-0 : goal.bounds-s-0
-bounds-s-0 c = omega (arith, room)
-
-pub bounds-s-1 : goal.bounds-s-1
-bounds-s-1 c = omega (arith, room)
-
-pub word-requires : goal.word-requires
-word-requires c = omega (arith, room)
-
-pub word_if-requires : goal.word_if-requires
-word_if-requires c = omega (arith, room)
-
-pub word_if-requires-2 : goal.word_if-requires-2
-word_if-requires-2 c = omega (arith, room)
-
-pub bounds-s-mechanism_at : goal.bounds-s-mechanism_at
-bounds-s-mechanism_at c = omega (arith, room, rw c.if-mechanism.true at c.more_if-period_at.ensures.0)
-
-pub word_if-requires-3 : goal.word_if-requires-3
-word_if-requires-3 c = omega (arith, room)
-
-pub word_if-requires-4 : goal.word_if-requires-4
-word_if-requires-4 c = omega (arith, room)
+bounds-s-0 c = omega (arith, fields_fit)
 
 -- a distance that stands, and the byte of the mechanism
 pub returns : goal.returns

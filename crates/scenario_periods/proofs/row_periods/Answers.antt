@@ -1,5 +1,6 @@
 use mathlib.Core.Path.{◌≡◌, sym, ap, subst, ◌∙◌, refl}
 use Rattle.std.specs.Prelude.{ℕ, Result, Ok}
+use Rattle.std.proofs.Common.{rules}
 use Rattle.toolbox_theory.proofs.Results.{passed_on}
 use Rattle.scenario_theory.specs.declared.Basis.{Basis}
 use Rattle.scenario_theory.specs.declared.Refusal.{Refusal}
@@ -45,15 +46,8 @@ boore_atkinson_period-requires-in-BooreAtkinson c =
 
 pub returns-in-Idriss : goal.returns-in-Idriss
 returns-in-Idriss c =
-    rw (c.idriss_period.ensures, c.idriss_period-in-Idriss.ensures, c.first.ensures, c.last.ensures)
-    (found _ _ c.check.ensures (c.in_ok-place.was ∙ ap Ok c.in-Idriss.is)).1
+    search (rules, (found _ _ c.check.ensures (c.in_ok-place.was ∙ ap Ok c.in-Idriss.is)).1)
 
 pub returns-in-BooreAtkinson : goal.returns-in-BooreAtkinson
 returns-in-BooreAtkinson c =
-    rw (
-      c.boore_atkinson_period.ensures,
-      c.boore_atkinson_period-in-BooreAtkinson.ensures,
-      c.first-in-BooreAtkinson.ensures,
-      c.last-in-BooreAtkinson.ensures,
-    )
-    (found _ _ c.check.ensures (c.in_ok-place.was ∙ ap Ok c.in-BooreAtkinson.is)).1
+    search (rules, (found _ _ c.check.ensures (c.in_ok-place.was ∙ ap Ok c.in-BooreAtkinson.is)).1)

@@ -1,0 +1,5 @@
+-- Each call has a digit less.
+use Rattle.decimal.proofs.+decimal_length.Given as goal
+
+abbrev pub decreases-decimal_length : goal.decreases-decimal_length
+decreases-decimal_length l = l.n

@@ -1,0 +1,9 @@
+-- The parts are the line.
+use Rattle.std.proofs.Common.{append_assoc}
+use Rattle.enclosures_theory.specs.Transfers.{output_failed}
+use Rattle.error_line.proofs.output_failed.Goals as goal
+
+pub returns : goal.returns
+unfolding output_failed
+returns c =
+    rw (c.push_text.ensures, c.push_counted-2.ensures, c.push_counted.ensures, c.new-line.ensures) (simp append_assoc)
