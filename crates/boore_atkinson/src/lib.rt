@@ -17,87 +17,71 @@ use interpolation_theory::TwoRows;
 use interval::{ends, exactly, plus};
 use interval_theory::{Ends, SignedPair};
 use period_step::no_pair;
-use scenario_theory::ProjectionDistance;
+use scenario_theory::{ProjectionDistance, Scenario};
 
 // What the nonlinear part has over the slope, which all rows have in common: from 760 m/s on the slope is 0, p has no
 // part in it, and 0 stands for it.
 #[tactic(auto, unfolding(boore_atkinson_theory::specs::Evaluation::curve_for))]
-fn curve_for(v: u64, m: u64, d: ProjectionDistance, mechanism: u8) -> Ends<u64>
-    requires { (500 ≤ m) × (m ≤ 800) × (d.0 ≤ 19_999) }
-    ensures { (result ≡ curve_for v m d.0 mechanism) × Sized result curve_most curve_most }
+fn curve_for(s: Scenario, d: ProjectionDistance) -> Ends<u64>
+    requires { (500 ≤ s.magnitude) × (s.magnitude ≤ 800) × (d.0 ≤ 19_999) }
+    ensures { (result ≡ curve_for s.velocity s.magnitude d.0 s.mechanism) × Sized result curve_most curve_most }
 {
-    if 7_600 <= v {
+    if 7_600 <= s.velocity {
         return exactly(0);
     }
-    site::curve(rock::minus_p(m, d, mechanism))
+    site::curve(rock::minus_p(s.magnitude as u64, d, s.mechanism))
 }
 
 // The median by row k of the tables, 0 for PGA, as a gain less a loss. What rows have in common is worked out before:
 // l, the absolute value of ln(V/760), and q, what the nonlinear part has over the slope.
+// k stays a usize: MedianDomain, in the clauses of median, allows any below row_count; a row type is narrower.
 fn median_by_row(
     k: usize,
-    m: u64,
+    s: Scenario,
     d: ProjectionDistance,
-    v: u64,
     l: Ends<u64>,
     q: Ends<u64>,
-    mechanism: u8,
 ) -> SignedPair
-    requires median_domain { MedianDomain k m d.0 v × (l ≡ vs30_ln_of v) }
-    requires q_value { (q ≡ curve_for v m d.0 mechanism) × Sized q curve_most curve_most }
-    ensures { result ≡ median_pair_of (row_at k) m d.0 v mechanism }
+    requires median_domain { MedianDomain k s.magnitude d.0 s.velocity × (l ≡ vs30_ln_of s.velocity) }
+    requires q_value { (q ≡ curve_for s.velocity s.magnitude d.0 s.mechanism) × Sized q curve_most curve_most }
+    ensures { result ≡ median_pair_of (row_at k) s.magnitude d.0 s.velocity s.mechanism }
 {
+    let m = s.magnitude as u64;
+    let v = s.velocity as u64;
     let row = table::distance_at(k);
     let effective = rock::effective_distance(d, row.4 as u64);
-    let motion = rock::rock(row, table::magnitude_at(k), m, effective, mechanism);
-    let s = table::site_at(k);
-    let linear = site::linear(s, v, l);
-    let nonlinear = site::nonlinear_part(s, v, l, q);
+    let motion = rock::rock(row, table::magnitude_at(k), m, effective, s.mechanism);
+    let terms = table::site_at(k);
+    let linear = site::linear(terms, v, l);
+    let nonlinear = site::nonlinear_part(terms, v, l, q);
     plus(plus(motion, linear), nonlinear)
 }
 
 // The median by row k.
-pub fn median(
-    k: usize,
-    magnitude: u16,
-    projection_distance: ProjectionDistance,
-    vs30: u16,
-    mechanism: u8,
-) -> Ends<i64>
-    requires { MedianDomain k magnitude projection_distance.0 vs30 }
-    ensures value { result ≡ median_of (row_at k) magnitude projection_distance.0 vs30 mechanism }
-    ensures median_ends { MedianEnds (row_at k) magnitude projection_distance.0 vs30 mechanism result }
+pub fn median(k: usize, s: Scenario, distance: ProjectionDistance) -> Ends<i64>
+    requires { MedianDomain k s.magnitude distance.0 s.velocity }
+    ensures value { result ≡ median_of (row_at k) s.magnitude distance.0 s.velocity s.mechanism }
+    ensures median_ends { MedianEnds (row_at k) s.magnitude distance.0 s.velocity s.mechanism result }
 {
-    let m = magnitude as u64;
-    let v = vs30 as u64;
-    let q = curve_for(v, m, projection_distance, mechanism);
-    let l = site::vs30_ln(v);
-    ends(median_by_row(k, m, projection_distance, v, l, q, mechanism))
+    let q = curve_for(s, distance);
+    let l = site::vs30_ln(s.velocity as u64);
+    ends(median_by_row(k, s, distance, l, q))
 }
 
 // The medians by row `last` and, where k is less, by the row before it. What rows have in common is worked out once: p,
 // what the nonlinear part makes of it, and ln(V/760).
-pub fn median_rows(
-    k: usize,
-    last: usize,
-    magnitude: u16,
-    projection_distance: ProjectionDistance,
-    vs30: u16,
-    mechanism: u8,
-) -> TwoRows
-    requires { MedianDomain last magnitude projection_distance.0 vs30 × (k ≤ last) }
-    ensures { result ≡ two_rows_of k last (λ j. median_pair_of (row_at j) magnitude projection_distance.0 vs30
-        mechanism) }
+pub fn median_rows(k: usize, last: usize, s: Scenario, distance: ProjectionDistance) -> TwoRows
+    requires { MedianDomain last s.magnitude distance.0 s.velocity × (k ≤ last) }
+    ensures { result ≡ two_rows_of k last (λ j. median_pair_of (row_at j) s.magnitude distance.0 s.velocity
+        s.mechanism) }
 {
-    let m = magnitude as u64;
-    let v = vs30 as u64;
-    let q = curve_for(v, m, projection_distance, mechanism);
-    let l = site::vs30_ln(v);
+    let q = curve_for(s, distance);
+    let l = site::vs30_ln(s.velocity as u64);
     let mut lower = no_pair();
     let mut upper = no_pair();
     for i in k..=last {
         lower = upper;
-        upper = median_by_row(i, m, projection_distance, v, l, q, mechanism);
+        upper = median_by_row(i, s, distance, l, q);
     }
     TwoRows { lower, upper }
 }

@@ -10,6 +10,7 @@ ghost use Rattle.boore_atkinson_theory.specs.Evaluation.{minus_p_of};
 ghost use Rattle.boore_atkinson_theory.specs.Sizes.{EffectiveSized, MagnitudeBounds, Small, term_most, rock_most};
 ghost use Rattle.interval_theory.specs.Bound.{SignedSized};
 
+use boore_atkinson_tables as table;
 use boore_atkinson_theory::{DistanceRow, EffectiveDistance, Exact, MagnitudeRow};
 use interval::exactly;
 use interval_theory::{Ends, SignedPair};
@@ -18,6 +19,9 @@ use scenario_theory::ProjectionDistance;
 // DistanceLimits and a magnitude from 5 to 8 stand in each contract: rock and minus_p, which docs/CONTRACTS.md names,
 // take any that meet them, and so no narrower type. Exact has numbers where SignedPair has ends: one type for both
 // would be named with its parameter in each contract.
+
+// The row of peak acceleration in the tables.
+const PGA: usize = 0;
 
 // R, from a projection distance and h.
 pub fn effective_distance(projection_distance: ProjectionDistance, h: u64) -> EffectiveDistance
@@ -56,6 +60,7 @@ fn fall(r: DistanceRow, m: u64, s: EffectiveDistance) -> Ends<u64>
 }
 
 // e, by the code of the mechanism.
+// The code stays a number: level_of answers for any, and a type of the accepted codes would ask more.
 #[tactic(auto, unfolding(boore_atkinson_theory::specs::Evaluation::level_of))]
 fn level(r: MagnitudeRow, mechanism: u8) -> Exact
     requires { MagnitudeLimits r }
@@ -96,6 +101,7 @@ fn magnitude_term(r: MagnitudeRow, m: u64, mechanism: u8) -> Exact
 }
 
 // The motion on rock by a row's two parts.
+// m and the mechanism stay two numbers, as rock_of takes them: no other field of a scenario has a part in it.
 pub fn rock(
     r: DistanceRow,
     q: MagnitudeRow,
@@ -122,9 +128,9 @@ pub fn minus_p(m: u64, projection_distance: ProjectionDistance, mechanism: u8) -
     requires { (500 ≤ m) × (m ≤ 800) × (projection_distance.0 ≤ 19_999) }
     ensures { (result ≡ minus_p_of m projection_distance.0 mechanism) × Sized result 4 rock_most }
 {
-    let r = boore_atkinson_tables::pga_distance();
+    let r = table::distance_at(PGA);
     let s = effective_distance(projection_distance, r.4 as u64);
-    let a = rock(r, boore_atkinson_tables::pga_magnitude(), m, s, mechanism);
+    let a = rock(r, table::magnitude_at(PGA), m, s, mechanism);
     Ends {
         low: a.loss.low - a.gain.low,
         high: a.loss.high - a.gain.low,

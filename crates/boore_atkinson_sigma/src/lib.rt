@@ -15,6 +15,7 @@ use interval::{between, exactly};
 use interval_theory::{Ends, SignedPair};
 
 // The total for a fault type that is unspecified, code 9, or specified.
+// The code stays a number: sigma_of answers for any, and a type of the accepted codes would ask more.
 fn total(t: TotalRow, mechanism: u8) -> u32
     ensures { result ≡ cond (eqb mechanism 9) t.0 t.1 }
 {
@@ -22,6 +23,7 @@ fn total(t: TotalRow, mechanism: u8) -> u32
 }
 
 // Sigma by row k, in units of 10^-9.
+// k stays a usize: docs/CONTRACTS.md names sigma for any k below row_count, and a type of rows would be narrower.
 fn sigma_by_row(k: usize, mechanism: u8) -> u64
     requires { k < row_count }
     ensures { (sigma_pair_of (total_at k) mechanism ≡ exact_pair result) × (result ≤ 1_000_000_000) }

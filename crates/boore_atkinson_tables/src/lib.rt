@@ -4,7 +4,7 @@
 
 ghost use Rattle.std.specs.Prelude.{◌≡◌, ◌<◌};
 ghost use Rattle.scenario_theory.specs.Rows.{row_count};
-ghost use Rattle.boore_atkinson_theory.specs.Rows.{row_at, total_at, pga};
+ghost use Rattle.boore_atkinson_theory.specs.Rows.{row_at, total_at};
 ghost use Rattle.boore_atkinson_theory.specs.Rows.{site_parts, distance_parts, magnitude_parts, total_parts};
 ghost use Rattle.boore_atkinson_theory.specs.Rows.{SiteLimits};
 ghost use Rattle.boore_atkinson_theory.specs.Rows.{DistanceLimits, MagnitudeLimits};
@@ -36,6 +36,9 @@ static TABLE_3: [SiteRow; 22] = [
     SiteRow(692, 247, 0),
     SiteRow(650, 215, 0),
 ];
+
+// k stays a usize in the look-ups: docs/CONTRACTS.md names them for any k below row_count; a row type is narrower.
+// Each indexes a table of its own type: one look-up, generic in the type, would be no plainer than TABLE_3[k].
 
 // Row k of Table 3.
 pub fn site_at(k: usize) -> SiteRow
@@ -146,17 +149,4 @@ pub fn total_at(k: usize) -> TotalRow
     ensures { result ≡ total_parts (total_at k) }
 {
     TABLE_8[k]
-}
-
-// The row PGA, at place 0.
-pub fn pga_distance() -> DistanceRow
-    ensures { (result ≡ distance_parts pga.distance) × DistanceLimits result }
-{
-    distance_at(0)
-}
-
-pub fn pga_magnitude() -> MagnitudeRow
-    ensures { (result ≡ magnitude_parts pga.magnitude) × MagnitudeLimits result }
-{
-    magnitude_at(0)
 }

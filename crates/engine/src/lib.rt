@@ -48,10 +48,8 @@ fn by_idriss(s: Scenario, distance: RuptureDistance, place: Place) -> Enclosure<
         idriss_tables::takes_table_3(s.magnitude),
         place.first(),
         place.last(),
-        s.magnitude,
+        s,
         distance,
-        s.velocity,
-        s.mechanism,
     );
     Enclosure {
         median: idriss_median(s, distance, place, rows),
@@ -101,14 +99,7 @@ fn by_boore_atkinson(s: Scenario, distance: ProjectionDistance, place: Place) ->
     requires { Placed boore_atkinson boore_atkinson_row s.magnitude distance.0 s.velocity s.mechanism s.period place }
     ensures { result ≡ boore_atkinson_enclosure_of s.magnitude distance.0 s.velocity s.mechanism s.period }
 {
-    let rows = boore_atkinson::median_rows(
-        place.first(),
-        place.last(),
-        s.magnitude,
-        distance,
-        s.velocity,
-        s.mechanism,
-    );
+    let rows = boore_atkinson::median_rows(place.first(), place.last(), s, distance);
     match place {
         Place::Row(k) => at_boore_atkinson_row(s, distance, k, rows),
         Place::Between(k) => between_boore_atkinson(s, distance, k, rows),

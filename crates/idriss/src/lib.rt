@@ -21,7 +21,7 @@ use idriss_theory::Row;
 use interpolation_theory::TwoRows;
 use interval_theory::{Ends, SignedPair};
 use period_step::no_pair;
-use scenario_theory::RuptureDistance;
+use scenario_theory::{RuptureDistance, Scenario};
 
 // a1 + a2 M + a3 (8.5 − M)², where none of the three is below zero.
 #[tactic(auto, unfolding(idriss_theory::specs::Evaluation::alpha_sum))]
@@ -34,6 +34,7 @@ fn alpha_sum(a1: u32, a2: u32, a3: u32, m: u64) -> u64
 }
 
 // F, by the code of the mechanism.
+// The code stays a number: F of the definitions answers for any, and a type of the accepted codes would ask more.
 #[tactic(auto, unfolding(idriss_theory::specs::Median::F))]
 fn faulting(mechanism: u8) -> u64
     ensures { (result ≡ F mechanism) × (result ≤ 1) }
@@ -43,6 +44,8 @@ fn faulting(mechanism: u8) -> u64
         _ => 0,
     }
 }
+
+// RowLimits and M from 4.5 to 7.9 stand in each contract: Row, a public type, holds any parts, and keeps no invariant.
 
 // The parts of α1 + α2 M + α3 (8.5 − M)² + γ R + φ F that are above zero.
 #[tactic(auto, unfolding(idriss_theory::specs::Evaluation::gains_of))]
@@ -96,24 +99,25 @@ fn site_term(r: Row, l: Ends<u64>) -> Ends<u64>
 
 // The median by row k of Table 3 where `table_3`, else of Table 2, as a gain less a loss. What rows have in common is
 // worked out before: ln(R + 10) and ln V.
+// `table_3` stays a bool, which row_at of the definitions takes, and k a usize: MedianDomain has it below row_count.
 #[tactic(auto, unfolding(interval_theory::specs::Natural::sum_of, idriss_theory::specs::Evaluation::median_pair_by))]
 fn median_by_row(
     table_3: bool,
     k: usize,
-    m: u64,
+    s: Scenario,
     d: u64,
     ln_r: Ends<u64>,
     ln_v: Ends<u64>,
-    mechanism: u8,
 ) -> SignedPair
-    requires k_lt_row_count { (k < row_count) × (450 ≤ m) × (m ≤ 790) × (d ≤ 17_500) }
+    requires k_lt_row_count { (k < row_count) × (450 ≤ s.magnitude) × (s.magnitude ≤ 790) × (d ≤ 17_500) }
     requires sized { Sized ln_r ln_width ln_most × Sized ln_v ln_width ln_most }
-    ensures { result ≡ median_pair_by (row_at table_3 k) m d ln_r ln_v mechanism }
+    ensures { result ≡ median_pair_by (row_at table_3 k) s.magnitude d ln_r ln_v s.mechanism }
 {
     let r = table::row_at(table_3, k);
+    let m = s.magnitude as u64;
     let far = distance_term(r, m, ln_r);
     let site = site_term(r, ln_v);
-    let up = gains(r, m, mechanism);
+    let up = gains(r, m, s.mechanism);
     let down = losses(r, m, d);
     SignedPair {
         gain: interval::exactly(up),
@@ -125,22 +129,15 @@ fn median_by_row(
 }
 
 // The median by row k of that table.
-pub fn median(
-    table_3: bool,
-    k: usize,
-    magnitude: u16,
-    rupture_distance: RuptureDistance,
-    vs30: u16,
-    mechanism: u8,
-) -> Ends<i64>
-    requires { MedianDomain k magnitude rupture_distance.0 vs30 }
-    ensures value { result ≡ median_of (row_at table_3 k) magnitude rupture_distance.0 vs30 mechanism }
-    ensures median_ends { MedianEnds (row_at table_3 k) magnitude rupture_distance.0 vs30 mechanism result }
+pub fn median(table_3: bool, k: usize, s: Scenario, distance: RuptureDistance) -> Ends<i64>
+    requires { MedianDomain k s.magnitude distance.0 s.velocity }
+    ensures value { result ≡ median_of (row_at table_3 k) s.magnitude distance.0 s.velocity s.mechanism }
+    ensures median_ends { MedianEnds (row_at table_3 k) s.magnitude distance.0 s.velocity s.mechanism result }
 {
-    let d = rupture_distance.0 as u64;
+    let d = distance.0 as u64;
     let ln_r = distance_ln(d);
-    let ln_v = vs30_ln(vs30 as u64);
-    interval::ends(median_by_row(table_3, k, magnitude as u64, d, ln_r, ln_v, mechanism))
+    let ln_v = vs30_ln(s.velocity as u64);
+    interval::ends(median_by_row(table_3, k, s, d, ln_r, ln_v))
 }
 
 // The medians by row `last` of that table and, where k is less, by the row before it. What rows have in common is
@@ -149,24 +146,21 @@ pub fn median_rows(
     table_3: bool,
     k: usize,
     last: usize,
-    magnitude: u16,
-    rupture_distance: RuptureDistance,
-    vs30: u16,
-    mechanism: u8,
+    s: Scenario,
+    distance: RuptureDistance,
 ) -> TwoRows
-    requires { MedianDomain last magnitude rupture_distance.0 vs30 × (k ≤ last) }
-    ensures { result ≡ two_rows_of k last (λ j. median_pair_of (row_at table_3 j) magnitude rupture_distance.0 vs30
-        mechanism) }
+    requires { MedianDomain last s.magnitude distance.0 s.velocity × (k ≤ last) }
+    ensures { result ≡ two_rows_of k last (λ j. median_pair_of (row_at table_3 j) s.magnitude distance.0 s.velocity
+        s.mechanism) }
 {
-    let m = magnitude as u64;
-    let d = rupture_distance.0 as u64;
+    let d = distance.0 as u64;
     let ln_r = distance_ln(d);
-    let ln_v = vs30_ln(vs30 as u64);
+    let ln_v = vs30_ln(s.velocity as u64);
     let mut lower = no_pair();
     let mut upper = no_pair();
     for i in k..=last {
         lower = upper;
-        upper = median_by_row(table_3, i, m, d, ln_r, ln_v, mechanism);
+        upper = median_by_row(table_3, i, s, d, ln_r, ln_v);
     }
     TwoRows { lower, upper }
 }

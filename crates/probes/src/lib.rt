@@ -175,7 +175,7 @@ pub extern "C" fn probe_idriss(
     if !taken(k, s) {
         return NO_ENDS;
     }
-    idriss::median(table == 3, k, magnitude, distance, velocity, mechanism).into()
+    idriss::median(table == 3, k, s, distance).into()
 }
 
 // Sigma of Idriss at an accepted period.
@@ -219,7 +219,7 @@ pub extern "C" fn probe_boore_atkinson(
     if !taken(k, s) {
         return NO_ENDS;
     }
-    boore_atkinson::median(k, magnitude, distance, velocity, mechanism).into()
+    boore_atkinson::median(k, s, distance).into()
 }
 
 // Sigma of Boore-Atkinson by row k.

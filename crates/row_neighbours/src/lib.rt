@@ -10,6 +10,9 @@ use interpolation_theory::Neighbours;
 use period_step::neighbours;
 use scenario_rows::{boore_atkinson_period, idriss_period};
 
+// k stays a usize: docs/CONTRACTS.md names both functions for any k that the clause allows; a row type is narrower.
+// They differ in the list and in where it begins: one for both would take the list, which each caller would name.
+
 // Row k of Idriss's tables and the next.
 pub fn idriss_neighbours(k: usize) -> Neighbours
     requires { k + 1 < row_count }

@@ -7,7 +7,7 @@ use Rattle.boore_atkinson.proofs.median_by_row.Goals as goal
 pub nonlinear_part-nonlinear-requires : goal.nonlinear_part-nonlinear-requires
 nonlinear_part-nonlinear-requires c =
     let p = c.requires in
-    (c.site_at-s.ensures.1, p.median_domain.0.slow, p.median_domain.1, p.q_value.1)
+    (c.site_at-terms.ensures.1, p.median_domain.0.slow, p.median_domain.1, p.q_value.1)
 
 pub plus-requires : goal.plus-requires
 plus-requires c =
@@ -25,4 +25,4 @@ unfolding median_pair_of
 returns c =
     rw (c.plus-2.ensures, c.plus.ensures, c.rock-motion.ensures.0, c.linear-linear.ensures.0)
     (rw (c.nonlinear_part-nonlinear.ensures.0, c.effective_distance-effective.ensures.0, c.requires.q_value.0)
-    (rw (curve_for_lem, c.distance_at-row.ensures.0, c.magnitude_at.ensures.0) (rw (c.site_at-s.ensures.0))))
+    (rw (curve_for_lem, c.distance_at-row.ensures.0, c.magnitude_at.ensures.0) (rw (c.site_at-terms.ensures.0))))

@@ -7,14 +7,14 @@ use Rattle.boore_atkinson_rock.proofs.minus_p.Goals as goal
 -- the gain is at most the loss: −p is above zero
 pub overflow_sub-result : goal.overflow_sub-result
 overflow_sub-result c =
-    rw (c.rock-a.ensures.0, c.pga_magnitude.ensures.0)
-    (pga_order c.args.mechanism _ c.pga_distance-r.ensures.1 c.requires.1)
+    rw (c.rock-a.ensures.0, c.magnitude_at.ensures.0)
+    (pga_order c.args.mechanism _ c.distance_at-r.ensures.1 c.requires.1)
 
 pub overflow_sub-result-2 : goal.overflow_sub-result-2
 overflow_sub-result-2 c =
     let order : c.rock-a.result.gain.low ≤ c.rock-a.result.loss.low =
-    rw (c.rock-a.ensures.0, c.pga_magnitude.ensures.0)
-    (pga_order c.args.mechanism _ c.pga_distance-r.ensures.1 c.requires.1) in
+    rw (c.rock-a.ensures.0, c.magnitude_at.ensures.0)
+    (pga_order c.args.mechanism _ c.distance_at-r.ensures.1 c.requires.1) in
     omega (arith, order, c.rock-a.ensures.1.loss)
 
 pub returns : goal.returns
@@ -22,5 +22,5 @@ unfolding minus_p_of
 returns c =
     let p = c.requires in
     as_sized
-    (rw (c.rock-a.ensures.0, c.effective_distance-s.ensures.0, c.pga_distance-r.ensures.0, c.pga_magnitude.ensures.0))
+    (rw (c.rock-a.ensures.0, c.effective_distance-s.ensures.0, c.distance_at-r.ensures.0, c.magnitude_at.ensures.0))
     (minus_p_sized c.args.mechanism p.0 p.1 p.2)
