@@ -78,15 +78,7 @@ pub fn write(x: Scenario, out: &mut [u8]) -> Writing
     ensures write_promise { WritePromise x out.old result }
     ensures out_after { out.new ≡ lent_after x out.old }
 {
-    scenario::check(
-        x.model,
-        x.magnitude,
-        x.rupture,
-        x.velocity,
-        x.mechanism,
-        x.period,
-        x.projection,
-    )?;
+    scenario::check(x)?;
     let m = map_byte(x);
     let n = record_length(m);
     if out.len() < n {

@@ -1,6 +1,6 @@
 -- A sheet as it is computed is as promised, and rests on the first scenarios alone.
 use mathlib.Core.Path.{◌≡◌, refl, ap}
-use mathlib.Core.List.{List}
+use mathlib.Core.List.{List, map}
 use Prim.Native.Nat.{ℕ, ◌≤◌, ◌<◌}
 use native.Mathlib.Omega.{arith}
 use borrow.Author.Tests.{lt-ltb, le-ltb}
@@ -22,8 +22,8 @@ use Rattle.engine_theory.specs.Flat.{told}
 use Rattle.engine_theory.proofs.FlatLaws.{flat_answers}
 use Rattle.sheet_theory.specs.declared.FlatSheet.{FlatSheet}
 use Rattle.sheet_theory.specs.Promise.{sheet_most, no_answer, answer_at, PlacePromise, SheetPromise}
-use Rattle.sheet_theory.specs.Evaluation.{column, head_of, answered_count, sheet_by, sheet_with, sheet_of}
-use Rattle.sheet_theory.proofs.Filling.{filled_before, filled_after, filled_alike}
+use Rattle.sheet_theory.specs.Evaluation.{filled, column, head_of, answered_count, sheet_by, sheet_with, sheet_of}
+use Rattle.sheet_theory.proofs.Filling.{filled_before, filled_after, filled_alike, filled_front}
 
 module _ {B : Type 0} where
   -- a field of what the single call gives
@@ -130,3 +130,9 @@ pub sheet_alike : (count : ℕ) (xs ys : List Scenario) →
     take (answered_count count) xs ≡ take (answered_count count) ys → sheet_of count xs ≡ sheet_of count ys
 unfolding sheet_of
 sheet_alike count xs ys e = with_alike (head_of count) xs ys e
+
+-- so a sheet of scenarios that are each made by f needs no more of them made than the first count
+pub sheet_made : {A : Type 0} (f : A → Scenario) (z : Scenario) (count n : ℕ) (xs : List A) → n ≤ length xs →
+    answered_count count ≤ n → sheet_of count (filled f z n xs) ≡ sheet_of count (map f xs)
+sheet_made f z count n xs there enough =
+    sheet_alike count _ _ (filled_front f z (answered_count count) n xs enough there)
