@@ -12,8 +12,8 @@ ghost use Rattle.interval_theory.specs.Signed.{ends_of};
 
 use interval_theory::{Ends, SignedPair};
 
-// The steps are functions and no methods or operators: an impl stands in the crate of its type, and interval_theory, as
-// each NAME_theory, holds no functions.
+// The steps are functions and no methods or operators: an impl stands in the crate of its type, and what rounds is kept
+// out of interval_theory, on which the models' definitions rest.
 
 // Equal ends.
 pub fn exactly(n: u64) -> Ends<u64>
