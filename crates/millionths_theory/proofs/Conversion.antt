@@ -21,7 +21,6 @@ use Rattle.logarithm_tables_theory.specs.Tables.{coarse_at, fine_at}
 use Rattle.logarithm_theory.specs.Promise.{ln_width}
 use Rattle.logarithm_theory.specs.Evaluation.{scaled_of, near_one_of, mantissa_ln_of, scaled_ln_of, ln_of}
 use Rattle.engine_theory.specs.Ranges.{median_most}
-use Rattle.millionths_theory.specs.declared.Millionths.{Millionths}
 use Rattle.millionths_theory.specs.declared.Floor.{Floor}
 use Rattle.millionths_theory.specs.Promise.{MeetsMillionths, Gap, MillionthsEnds, widest, Convertible, FromEnds}
 use Rattle.millionths_theory.specs.Evaluation.{ln_millionths, most, greatest_passing, up_to, floor_of, at_least}
@@ -132,5 +131,5 @@ module _ {f : Formula} (e : Ends ℤ) (c : Convertible f e) where
   }
 
 -- every two numbers of which a contract says `m ≡ millionths_from e` keep it
-pub from_ends : {m : Millionths} (e : Ends ℤ) → m ≡ millionths_from e → (m ≡ millionths_from e) × FromEnds e m
+pub from_ends : {m : Ends ℕ} (e : Ends ℤ) → m ≡ millionths_from e → (m ≡ millionths_from e) × FromEnds e m
 from_ends e same = (same, λ f c. rw same (converts e c))

@@ -8,7 +8,6 @@ use Rattle.logarithm_theory.specs.Evaluation.{ln_of}
 use Rattle.scenario_theory.specs.declared.Scenario.{Scenario}
 use Rattle.engine_theory.specs.Promise.{Answer}
 use Rattle.engine_theory.specs.Evaluation.{answer_of}
-use Rattle.millionths_theory.specs.declared.Millionths.{Millionths}
 use Rattle.millionths_theory.specs.declared.Floor.{Floor}
 use Rattle.millionths_theory.specs.Promise.{MillionthsAnswer, million}
 
@@ -54,7 +53,7 @@ ceiling_after a z = first_passing (at_least z) (most - a) (suc a)
 
 -- from the ends of a logarithm: the greatest a with ln(a/10^6) up to the low one, and the first b after it with
 -- ln(b/10^6) from the high one on
-unfoldable pub millionths_from : Ends ℤ → Millionths
+unfoldable pub millionths_from : Ends ℤ → Ends ℕ
 millionths_from e = let a : ℕ = (floor_of e.low).whole in record { low = a; high = ceiling_after a e.high }
 
 -- of an answer, and of a scenario

@@ -11,11 +11,10 @@ use Rattle.scenario_theory.specs.declared.Refusal.{Refusal}
 use Rattle.scenario_theory.specs.Numbers.{refusal_number}
 use Rattle.engine_theory.specs.Models.{median}
 use Rattle.engine_theory.specs.Ranges.{median_most}
-use Rattle.millionths_theory.specs.declared.Millionths.{Millionths}
 
 -- what answering in millionths gives: two of them, or why the scenario is turned away
 abbrev pub MillionthsAnswer : Type 0
-MillionthsAnswer = Result Millionths Refusal
+MillionthsAnswer = Result (Ends ℕ) Refusal
 
 -- so many are 1 g
 abbrev pub million : ℕ
@@ -57,7 +56,7 @@ pub record Convertible (f : Formula) (e : Ends ℤ) : Type 0 where
   pub few : e.high ≤ℤ pos median_most
 
 -- two numbers that come from the ends e: every f that these enclose so lies between the numbers
-abbrev pub FromEnds : Ends ℤ → Millionths → Type 0
+abbrev pub FromEnds : Ends ℤ → Ends ℕ → Type 0
 FromEnds e m = (f : Formula) → Convertible f e → MillionthsEnds f m.low m.high
 
 -- the number and the values of each case (document 01): 0 is no refusal, and "A refusal returns its number only"

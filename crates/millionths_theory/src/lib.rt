@@ -1,14 +1,11 @@
 // Medians in millionths of g: their types, what is promised, what is computed, and laws. There is no code.
 #![tactic(auto)]
 
+use interval_theory::Ends;
 use scenario_theory::Refusal;
 
 // Two whole numbers of millionths of g.
-#[derive(Clone, Copy)]
-pub struct Millionths {
-    pub low: u32,
-    pub high: u32,
-}
+pub type Millionths = Ends<u32>;
 
 // What answering in millionths gives: two of them, or why the scenario is turned away.
 pub type MillionthsAnswer = Result<Millionths, Refusal>;

@@ -12,8 +12,7 @@ use arrayvec::ArrayVec;
 use decimal::put_whole;
 use engine_theory::Answer;
 use error_line::push_text;
-use report::push_line;
-use report_end::push_last_line;
+use lines::{push_last_line, push_line};
 
 // Room for all that is printed, `page_most`.
 pub const PAGE_MOST: usize = 75_849;

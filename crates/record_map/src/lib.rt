@@ -15,7 +15,7 @@ pub const ABSENT_MECHANISM: u8 = 9;
 
 pub const ABSENT_PERIOD: u16 = 0;
 
-// n, and k more where b holds.
+// n, and k more where b holds. It stays a function of its own: the edits one_more and k_for_n speak of it.
 pub fn more_if(n: usize, b: bool, k: usize) -> usize
     requires { n + k < 256 }
     ensures { (result ≡ n + cond b k 0) × (result ≤ n + k) }

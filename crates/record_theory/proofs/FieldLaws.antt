@@ -3,7 +3,7 @@ use mathlib.Core.Path.{◌≡◌, refl, ap, ◌∙◌}
 use mathlib.Core.Bool.{Bool, true, false, not, cond, ◌&&◌, ◌||◌, or-false, and-not_self}
 use mathlib.Core.List.{List, [], ◌∷◌}
 use Rattle.std.specs.Prelude.{Option, Some, None}
-use Prim.Native.Nat.{ℕ, ◌+◌, ◌*◌, ◌≤◌}
+use Prim.Native.Nat.{ℕ, ◌+◌, ◌≤◌}
 use native.Mathlib.Nat.{add-zero}
 use native.Mathlib.Omega.{arith}
 use lib.Dec.{eqb}
@@ -86,21 +86,13 @@ distances_read s e =
       projection = rw projection_number_lem (stands_by (stands 6 (map_in s)) _);
     })
 
--- a byte, and two
+-- a byte
 front_byte : (s : List ℕ) → number_of (take 1 s) ≡ get_or s 0 0
 front_byte [] = refl
 front_byte (a ∷ s) = omega arith
 
-front_word : (s : List ℕ) → number_of (take 2 s) ≡ get_or s 0 0 + 256 * get_or s 1 0
-front_word [] = refl
-front_word (a ∷ []) = omega arith
-front_word (a ∷ b ∷ s) = omega arith
-
 pub byte_at : (s : List ℕ) (at : ℕ) → number_at 1 at s ≡ get_or s at 0
 byte_at s at = front_byte (drop at s) ∙ (get_or-drop at s 0 0 ∙ ap (λ (i : ℕ). get_or s i 0) (add-zero at))
-
-pub word_at : (s : List ℕ) (at : ℕ) → number_at 2 at s ≡ get_or s at 0 + 256 * get_or s (at + 1) 0
-word_at s at = rw (front_word (drop at s), get_or-drop at s 0 0, get_or-drop at s 1 0, add-zero at)
 
 -- a field that stands with its absent number, one of three; a distance has none
 pub absent_written_is : (m : ℕ) (x : Scenario) → StandBy m x →

@@ -81,11 +81,11 @@ accepted s e =
 
 -- the checks of the fields: a number that is written out, and then those of the scenario
 module _ (m : ℕ) (x : Scenario) where
-  pub written_out : absent_written layout m x ≡ true → Err E.DefaultWritten ≡ field_check m x
+  written_out : absent_written layout m x ≡ true → Err E.DefaultWritten ≡ field_check m x
   unfolding field_check field_refusal
   written_out e = rw e refl
 
-  pub not_written_out : {c : Result Basis Refusal} → absent_written layout m x ≡ false → c ≡ check_of x →
+  not_written_out : {c : Result Basis Refusal} → absent_written layout m x ≡ false → c ≡ check_of x →
       c ≡ field_check m x
   unfolding field_check field_refusal check_of
   not_written_out e h = rw e h

@@ -3,8 +3,8 @@ use Rattle.std.proofs.Common.{◌≡◌, refl, true, false, sym, ◌∙◌, add-
 use Rattle.std.proofs.lemmas.List.{length_push}
 use mir.ValLaws.{to_z-of_z}
 use Rattle.governing_theory.specs.Evaluation.{leads, greatest_of}
-use Rattle.screening.proofs.Places.{turn}
-use Rattle.screening.proofs.Steps.{greatest_next}
+use Rattle.governing_theory.proofs.TwoColumns.{turn}
+use Rattle.governing_theory.proofs.Steps.{greatest_next}
 use Rattle.screening.proofs.greatest.Goals as goal
 
 pub loop-i-init : goal.loop-i-init

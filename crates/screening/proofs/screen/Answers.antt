@@ -3,7 +3,7 @@ use Rattle.std.proofs.Common.{rules, arith, ◌≡◌, refl, sym, ap, ◌∙◌,
 use mir.ValLaws.{to_z-of_z}
 use Rattle.governing_theory.specs.Evaluation.{no_screening}
 use Rattle.governing_theory.proofs.Screening.{over_is}
-use Rattle.screening.proofs.Steps.{marks_taken, screened}
+use Rattle.governing_theory.proofs.Steps.{marks_taken, screened}
 use Rattle.screening.proofs.screen.Goals as goal
 use Rattle.screening.proofs.screen.Goals.{in_default-via-in-Some+in_default, in_default-via-in_default}
 

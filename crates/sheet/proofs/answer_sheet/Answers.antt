@@ -1,5 +1,5 @@
 -- Each scenario's answer is stored in its turn, and at the end it is the whole sheet.
-use Rattle.std.proofs.Common.{◌≡◌, ◌≤◌, ◌<◌, length, sym, ◌∙◌, rules, arith, to_z, of_z, w64}
+use Rattle.std.proofs.Common.{◌≡◌, ◌≤◌, sym, ◌∙◌, rules, arith, to_z, of_z, w64}
 use Rattle.std.proofs.lemmas.List.{length-take}
 use mir.ValLaws.{to_z-of_z}
 use Rattle.sheet_theory.specs.Promise.{sheet_most}

@@ -12,7 +12,7 @@ use Rattle.governing_theory.specs.declared.Greatest.{Greatest}
 use Rattle.sheet_theory.specs.declared.FlatSheet.{FlatSheet}
 use Rattle.governing_theory.specs.Evaluation.{with_place, greatest_of, mark_of, marks_of, screening_by, screening_of}
 use Rattle.governing_theory.proofs.Screening.{within_is}
-use Rattle.screening.proofs.Places.{Turn}
+use Rattle.governing_theory.proofs.TwoColumns.{Turn}
 
 module _ (numbers : List ℕ) (ends : List ℤ) (k : ℕ) {i number : ℕ} {end : ℤ}
     (t : Turn numbers ends k i number end) where

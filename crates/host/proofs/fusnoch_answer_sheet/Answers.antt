@@ -1,0 +1,20 @@
+use mathlib.Core.Path.{◌≡◌, ◌∙◌}
+use native.Mathlib.Omega.{arith}
+use lib.ListN.{length, length-map}
+use Rattle.sheet_theory.specs.Promise.{sheet_most}
+use Rattle.sheet_theory.specs.Evaluation.{answered_count, sheet_of}
+use Rattle.sheet_theory.proofs.Laws.{few, sheet_promised, sheet_alike}
+use Rattle.host_theory.proofs.SheetLaws.{taken_over}
+use Rattle.host_theory.specs.Told.{scenario_from}
+use Rattle.host.proofs.fusnoch_answer_sheet.Goals as goal
+
+pub returns : goal.returns
+returns c =
+    let count = c.args.count in
+    let places = c.args.scenarios.places in
+    let long : length places ≡ sheet_most = omega arith in
+    let kept = sheet_promised count _ (length-map places scenario_from ∙ long)
+    (c.answer_sheet.ensures.value
+    ∙ taken_over (sheet_of count) (answered_count count) (few count) (sheet_alike count) places long
+    c.scenarios_from.ensures) in
+    record { value = kept.0; sheet_promise = kept.1 }
