@@ -101,7 +101,7 @@ fn magnitude_term(r: MagnitudeRow, m: u64, mechanism: u8) -> Exact
 }
 
 // The motion on rock by a row's two parts.
-// m and the mechanism stay two numbers, as rock_of takes them: no other field of a scenario has a part in it.
+// m and the mechanism stay two numbers here and in minus_p: rock_of and minus_p_of take them so, and no scenario.
 pub fn rock(
     r: DistanceRow,
     q: MagnitudeRow,
