@@ -27,7 +27,7 @@ LN = re.compile(r'pair_at ([\d_]+) \(ln ([\d_]+) ([\d_]+)\) ' + ENDS)
 ROOT = re.compile(r'pair_at ([\d_]+) \(root ([\d_]+)\) ' + ENDS)
 NUMBERS = r'\(((?:\w+ ∷ )+)\[\]\)'
 # The fields of a scenario, in the record's order; an absent distance has no number.
-FIELDS = r'\(((?:(?:some [\d_]+|none) ∷ )+)\[\]\)'
+FIELDS = r'\(((?:(?:Some [\d_]+|None) ∷ )+)\[\]\)'
 READS = re.compile('reads ' + NUMBERS + ' ' + FIELDS)
 VALUE = r'\((pos|neg) ([\d_]+) over ([\d_]+)\)'
 LN_EVERY = re.compile(r'at_every \(ln ([\d_]+) ([\d_]+)\) ' + VALUE)
@@ -115,7 +115,7 @@ def part_holds(match):
 
 def fields_of(text):
     """Return the numbers of fields, None for one that is absent."""
-    return [None if word == 'none' else whole(word.removeprefix('some ')) for word in text.split(' ∷ ')[:-1]]
+    return [None if word == 'None' else whole(word.removeprefix('Some ')) for word in text.split(' ∷ ')[:-1]]
 
 
 def reads_holds(match):
