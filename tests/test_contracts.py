@@ -182,10 +182,10 @@ def function_not_listed(root):
 
 
 def method_added(root):
-    """A function stands where the tool does not look for one."""
+    """A pub fn of an impl has no contract."""
     path = added(root)
     write(root, path, 'impl Made {\n    pub fn added(x: u64) -> u64 {\n        x\n    }\n}\n')
-    return [f'{path}:1: a form that this tool does not know: impl Made {{']
+    return [f'{path}:2: added has no ensures']
 
 
 def function_hidden(root):

@@ -48,7 +48,11 @@ module _ (s : Scenario) where
         refused = λ h. absurd (h refl);
       }
   promised (suc k) accepted few =
-      record { number = numbered (suc k) (λ z. omega arith) few; enclosed = λ z. absurd (omega arith); refused = λ h. refl }
+      record {
+        number = numbered (suc k) (λ z. omega arith) few;
+        enclosed = λ z. absurd (omega arith);
+        refused = λ h. refl;
+      }
 
   -- every answer of which a contract says `r ≡ answer_by k s` keeps the promise
   pub answers : {r : Answer} (k : ℕ) → (k ≡ 0 → refusal_of s ≡ 0) → k ≤ 15 → r ≡ answer_by k s →

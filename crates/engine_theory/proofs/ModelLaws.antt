@@ -160,8 +160,8 @@ module _ (s : Scenario) where
         (median_between_of_promise s.mechanism (not_first b.rows) d b.step) in
         median_ends (between_ends (2 * boore_atkinson_width) (omega arith) m) (omega arith) (omega arith) m.reaches)
 
-    boore_atkinson_sigma_lem : SoundEnds (cond (has_row boore_atkinson T) 0 sigma_between_width) (boore_atkinson_sigma_by s)
-        (boore_atkinson_sigma_ends s.mechanism T)
+    boore_atkinson_sigma_lem : SoundEnds (cond (has_row boore_atkinson T) 0 sigma_between_width)
+        (boore_atkinson_sigma_by s) (boore_atkinson_sigma_ends s.mechanism T)
     boore_atkinson_sigma_lem =
         by_tabled SoundEnds (has_row boore_atkinson T)
         (λ e.

@@ -94,8 +94,8 @@ pub fn check(s: Scenario) -> Result<Basis, Refusal>
     }
 }
 
-// The number of the first of the checks 9 for the distance, 13 and 1 to 6 that s fails, 0 where it fails none: it stays a
-// number, as C is told it (fusnoch_refusal).
+// The number of the first of the checks 9 for the distance, 13 and 1 to 6 that s fails, 0 where it fails none: it stays
+// a number, as C is told it (fusnoch_refusal).
 pub fn refusal(s: Scenario) -> u8
     ensures { result ≡ refusal_of s }
 {

@@ -26,8 +26,8 @@ use Rattle.scenario_theory.specs.Rows.{row_list}
 use Rattle.scenario_theory.specs.Neighbours.{row_periods_of}
 use Rattle.scenario_theory.specs.Numbers.{refusal_number, with_number}
 use Rattle.scenario_theory.specs.declared.ModelLimits.{ModelLimits}
-use Rattle.scenario_theory.specs.Accepted.{code_limits, limit_number, limit_check, scenario_with, check_by, basis_of, based_on, check_of, periods_on}
-use Rattle.scenario_theory.specs.Accepted.{InTables, plain_scenario, RestsOn}
+use Rattle.scenario_theory.specs.Accepted.{code_limits, limit_number, limit_check, check_by, basis_of, based_on}
+use Rattle.scenario_theory.specs.Accepted.{check_of, periods_on, InTables, plain_scenario, RestsOn}
 use Rattle.scenario_theory.proofs.CheckLaws.{unless_is}
 use Rattle.scenario_theory.proofs.RefusalLaws.{WithinBy, of_model}
 use Rattle.scenario_theory.proofs.NumberLaws.{numbered, refusal_numbered}

@@ -14,8 +14,8 @@ pub struct RuptureDistance(pub u16);
 #[derive(Clone, Copy)]
 pub struct ProjectionDistance(pub u16);
 
-// The fields of document 01, 'The scenario', as whole numbers. Either distance may be absent, and has no number then. The
-// model and the mechanism are the caller's numbers, any of which is answered or refused.
+// The fields of document 01, 'The scenario', as whole numbers. Either distance may be absent, and has no number then.
+// The model and the mechanism are the caller's numbers, any of which is answered or refused.
 #[derive(Clone, Copy)]
 pub struct Scenario {
     // 1 Idriss, 2 Boore-Atkinson
@@ -32,7 +32,8 @@ pub struct Scenario {
     pub projection: Option<ProjectionDistance>,
 }
 
-// What a model takes: from the first number to the second, a distance from 0 on, and the mechanisms 0 to 3 and one other.
+// What a model takes: from the first number to the second, a distance from 0 on, and the mechanisms 0 to 3 and one
+// other.
 #[derive(Clone, Copy)]
 pub struct ModelLimits {
     pub magnitude: (u16, u16),
@@ -77,8 +78,8 @@ pub enum Basis {
     BooreAtkinson(ProjectionDistance, Place),
 }
 
-// Why a scenario, its record or a sheet of them is turned away; the numbers are document 01's, 'What is turned away', and
-// document 02's, W-202, W-204 and W-206.
+// Why a scenario, its record or a sheet of them is turned away; the numbers are document 01's, 'What is turned away',
+// and document 02's, W-202, W-204 and W-206.
 #[derive(Clone, Copy, PartialEq, Eq)]
 pub enum Refusal {
     // 1 to 6: it is none of the two, or it is beyond the model's limits

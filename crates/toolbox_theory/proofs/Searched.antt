@@ -22,11 +22,14 @@ count_of : (l : List ℕ) (x n : ℕ) → n ≤ length l → ((k : ℕ) → k < 
 unfolding count_below
 count_of [] x n h low high = omega arith
 count_of (y ∷ ys) x zero h low high =
-    let rest = count_of ys x 0 (omega arith) (λ k q. absurd (omega arith)) (λ k p q. high (suc k) (omega arith) (omega arith)) in
+    let rest =
+    count_of ys x 0 (omega arith) (λ k q. absurd (omega arith))
+    (λ k p q. high (suc k) (omega arith) (omega arith)) in
     rw (le-ltb y x (high 0 (omega arith) (omega arith))) (omega (arith, rest))
 count_of (y ∷ ys) x (suc n) h low high =
     let rest =
-    count_of ys x n (omega arith) (λ k q. low (suc k) (omega arith)) (λ k p q. high (suc k) (omega arith) (omega arith)) in
+    count_of ys x n (omega arith) (λ k q. low (suc k) (omega arith))
+    (λ k p q. high (suc k) (omega arith) (omega arith)) in
     rw (lt-ltb y x (low 0 (omega arith))) (omega (arith, rest))
 
 none_of : (l : List ℕ) (x : ℕ) → ((k : ℕ) → k < length l → x ≡ get_or l k 0 → ⊥) → among l x ≡ false

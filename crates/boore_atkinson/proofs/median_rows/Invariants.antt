@@ -6,4 +6,5 @@ use Rattle.boore_atkinson.proofs.median_rows.Given as goal
 
 abbrev pub invariant-loop-i : goal.invariant-loop-i
 invariant-loop-i l =
-    Passed l.k (λ j. median_pair_of (row_at j) l.s.magnitude l.distance.0 l.s.velocity l.s.mechanism) l.lower l.upper l.i
+    Passed l.k (λ j. median_pair_of (row_at j) l.s.magnitude l.distance.0 l.s.velocity l.s.mechanism)
+    l.lower l.upper l.i

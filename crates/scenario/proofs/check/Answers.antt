@@ -49,7 +49,8 @@ unfolding projection_exceeds
 returns-in_err-distance-in-2 c =
     let near = sym c.projection_exceeds.ensures ∙ c.if-projection_exceeds.false in
     let none = ok_or_none _ _ (sym c.ok_or-in-2.ensures.value ∙ c.in_err-distance-in-2.was) in
-    passed_on c.from_residual-in_err-distance-in-2.ensures ∙ ap Err none.1 ∙ boore_atkinson_lacks _ near c.in-2.is none.0
+    passed_on c.from_residual-in_err-distance-in-2.ensures ∙ ap Err none.1 ∙
+    boore_atkinson_lacks _ near c.in-2.is none.0
 
 pub returns-in_err-within-in-2 : goal.returns-in_err-within-in-2
 unfolding projection_exceeds
