@@ -188,6 +188,13 @@ def method_added(root):
     return [f'{path}:2: added has no ensures']
 
 
+def trait_unsaid(root):
+    """An impl of a trait does not say what it gives."""
+    path = added(root)
+    write(root, path, 'impl From<Made> for u64 {\n    fn from(x: Made) -> u64 {\n        x.x\n    }\n}\n')
+    return [f'{path}:1: an impl that does not say what it gives']
+
+
 def function_hidden(root):
     """A function stands within a literal, as far as the tool can see."""
     path = added(root)
@@ -300,7 +307,7 @@ def crates_unnamed(root):
 
 CASES = (promise_deleted, every_promise_deleted, leaf_without_promise, condition_added,
          width_changed, definition_changed, import_changed, module_added, function_not_listed,
-         method_added, function_hidden, theory_with_function, definitions_beside_theory,
+         method_added, trait_unsaid, function_hidden, theory_with_function, definitions_beside_theory,
          law_beside_theory, law_below, theory_on_code, proof_in_theory, crate_closed, line_cut,
          line_removed, file_missing, definition_chosen, definition_missing, crate_missing,
          crates_unnamed)

@@ -57,9 +57,13 @@ module _ (s : List ℕ) where
   -- every answer of which a contract says `r ≡ next_of s` keeps the promise
   pub next_promised : {r : NextAnswer} → r ≡ next_of s → (r ≡ next_of s) × NextPromise s r
   unfolding record_answer_of
-  next_promised e =
-      let answer = rw same_answer (promised _ _ read_accepted (read_numbered s)) in
-      (e, rw e (record { answer = answer; length = same_length }))
+  next_promised e = (
+    e,
+    rw e (record {
+      answer = rw same_answer (promised _ _ read_accepted (read_numbered s));
+      length = same_length;
+    }),
+  )
 
   -- "Answering from a record .. answers the scenario read": as answering from its fields does
   pub record_as_fields : (x : Scenario) (n : ℕ) → read_of s ≡ Ok (x, n) → record_answer_of s ≡ answer_of x

@@ -4,7 +4,7 @@
 ghost use Rattle.std.specs.Prelude.{◌≡◌, ◌+◌, ◌≤◌, ◌∷◌, ◌++◌};
 ghost use Rattle.arrayvec.specs.ArrayVec.{array_vec_len};
 ghost use Rattle.report_theory.specs.Text.{signed_decimal};
-ghost use Rattle.report_theory.specs.Lines.{line_of, last_line_of};
+ghost use Rattle.report_theory.specs.Lines.{line_of, refused_line_of, last_line_of};
 ghost use Rattle.report_theory.specs.Steps.{ends_bytes};
 
 use arrayvec::ArrayVec;
@@ -34,24 +34,33 @@ fn push_ends<const N: usize>(line: &mut ArrayVec<u8, N>, e: Ends<i64>)
     push_end(line, e.high);
 }
 
+// Puts the line of a refusal with any number, without its line end, after what a page has.
+#[tactic(auto, using(report_theory::proofs::LineLaws::lines), unfolding(report_theory::specs::Lines::refused_line_of, report_theory::specs::Text::spaced))]
+pub fn push_refused<const N: usize>(page: &mut ArrayVec<u8, N>, position: u64, number: u8)
+    requires { array_vec_len page.old + 110 ≤ N }
+    ensures { page.new.items ≡ page.old.items ++ refused_line_of position number }
+{
+    push_decimal(page, position);
+    page.push(b' ');
+    page.push(b'R');
+    page.push(b' ');
+    push_decimal(page, number as u64);
+}
+
 // Puts the line of an answer, without its line end, after what a page has.
 pub fn push_line<const N: usize>(page: &mut ArrayVec<u8, N>, position: u64, a: Answer)
     requires { array_vec_len page.old + 110 ≤ N }
     ensures { page.new.items ≡ page.old.items ++ line_of position a }
 {
-    push_decimal(page, position);
-    page.push(b' ');
     match a {
         Ok(e) => {
+            push_decimal(page, position);
+            page.push(b' ');
             page.push(b'E');
             push_ends(page, e.median);
             push_ends(page, e.sigma);
         }
-        Err(refusal) => {
-            page.push(b'R');
-            page.push(b' ');
-            push_decimal(page, u8::from(refusal) as u64);
-        }
+        Err(refusal) => push_refused(page, position, refusal.into()),
     }
 }
 

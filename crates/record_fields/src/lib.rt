@@ -4,7 +4,8 @@
 ghost use Rattle.std.specs.Prelude.{◌≡◌, cond, ◌+◌, ◌≤◌, ◌<◌, length, take, drop, Some, None};
 ghost use Rattle.record_theory.specs.Layout.{layout, number_of, absent_written};
 ghost use Rattle.record_theory.specs.Outcome.{scenario_in};
-ghost use Rattle.record_theory.specs.Steps.{Complete, StandBy, check_with, front_refusal};
+ghost use Rattle.scenario_theory.specs.Numbers.{check_with};
+ghost use Rattle.record_theory.specs.Steps.{Complete, StandBy, front_refusal};
 
 use record_map::{
     ABSENT_MECHANISM, ABSENT_PERIOD, ABSENT_VELOCITY, map_check, more_if, record_length,

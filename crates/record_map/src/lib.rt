@@ -4,7 +4,7 @@
 
 ghost use Rattle.std.specs.Prelude.{◌≡◌, cond, ◌+◌, ◌≤◌, ◌<◌};
 ghost use Rattle.record_theory.specs.Outcome.{length_by, map_refusal};
-ghost use Rattle.record_theory.specs.Steps.{check_with};
+ghost use Rattle.scenario_theory.specs.Numbers.{check_with};
 
 use scenario_theory::Refusal;
 

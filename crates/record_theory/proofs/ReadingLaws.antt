@@ -14,7 +14,7 @@ use Rattle.scenario_theory.specs.declared.Refusal.{Refusal}
 use Rattle.scenario_theory.specs.declared.Refusal.TheVariants as E
 use Rattle.scenario_theory.specs.Checks.{◌when◌, ◌otherwise◌, unless_refused}
 use Rattle.scenario_theory.specs.Refusal.{refusal_of}
-use Rattle.scenario_theory.specs.Numbers.{refusal_number, with_number}
+use Rattle.scenario_theory.specs.Numbers.{check_with, refusal_number, with_number}
 use Rattle.scenario_theory.specs.Accepted.{basis_of, check_of, RestsOn}
 use Rattle.scenario_theory.proofs.CheckLaws.{is_first, first_of_three, none_of, not_when}
 use Rattle.scenario_theory.proofs.CheckLaws.{is_refused, by_number, of_unless}
@@ -23,7 +23,7 @@ use Rattle.scenario_theory.proofs.NumberLaws.{numbered, number_when, number_othe
 use Rattle.record_theory.specs.Layout.{layout, absent_written}
 use Rattle.record_theory.specs.Outcome.{map_in, scenario_in, length_by, map_refusal, read_refusal, read_of, rest_at}
 use Rattle.record_theory.specs.Outcome.{rest_of, reading_number, reading_values, ReadPromise}
-use Rattle.record_theory.specs.Steps.{check_with, front_refusal, field_refusal, field_check, BasedReading}
+use Rattle.record_theory.specs.Steps.{front_refusal, field_refusal, field_check, BasedReading}
 use Rattle.record_theory.specs.Steps.{based_reading, based_reading_of, reading_in, Complete}
 use Rattle.record_theory.proofs.MapLaws.{map_numbered}
 

@@ -11,10 +11,6 @@ use Rattle.scenario_theory.specs.Accepted.{basis_of}
 use Rattle.record_theory.specs.Layout.{layout, stands, absent_written}
 use Rattle.record_theory.specs.Outcome.{Reading, map_in, scenario_in, length_by, map_refusal, read_refusal}
 
--- what a check answers, by its number
-abbrev pub check_with : ℕ → Result (Unit {0}) Refusal
-check_with k = unless_refused k (Ok tt) (Err (with_number k))
-
 -- reading's checks before the fields are taken, and those of the fields
 unfoldable pub front_refusal : List ℕ → ℕ
 front_refusal s =

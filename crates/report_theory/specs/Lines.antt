@@ -14,6 +14,10 @@ words_of (Err r) = (82 ∷ []) ∷ (decimal (refusal_number r) ∷ [])
 unfoldable pub line_of : ℕ → Answer → List ℕ
 line_of position a = decimal position ++ spaced (words_of a)
 
+-- and that of a refusal with any number
+unfoldable pub refused_line_of : ℕ → ℕ → List ℕ
+refused_line_of position k = decimal position ++ spaced ((82 ∷ []) ∷ decimal k ∷ [])
+
 -- '"end" with the count of those record lines', without its line end
 abbrev pub end_bytes : List ℕ
 end_bytes = ascii "end "

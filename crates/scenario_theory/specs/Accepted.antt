@@ -15,7 +15,7 @@ use Rattle.scenario_theory.specs.declared.Refusal.TheVariants as E
 use Rattle.scenario_theory.specs.declared.RowPeriods.{RowPeriods}
 use Rattle.scenario_theory.specs.Checks.{◌to◌, beyond, ◌when◌, ◌otherwise◌, unless_refused}
 use Rattle.scenario_theory.specs.Refusal.{Limits, idriss, boore_atkinson, beyond_periods, refusal_by, refusal_of}
-use Rattle.scenario_theory.specs.Numbers.{with_number}
+use Rattle.scenario_theory.specs.Numbers.{with_number, check_with}
 use Rattle.scenario_theory.specs.Rows.{idriss_row, boore_atkinson_row, place_by, row_list, periods_at, InTable}
 
 -- the scenario that has the fields
@@ -53,9 +53,7 @@ limit_number l s R =
     5 when not (among (0 ∷ 1 ∷ 2 ∷ 3 ∷ l.mechanism ∷ []) s.mechanism)
 
 unfoldable pub limit_check : ModelLimits → Scenario → ℕ → Result (Unit {0}) Refusal
-limit_check l s R =
-    let k : ℕ = limit_number l s R in
-    unless_refused k (Ok tt) (Err (with_number k))
+limit_check l s R = check_with (limit_number l s R)
 
 -- 2 to 6 by the limits of a model, with what an answer rests on by the place of the period
 unfoldable pub check_by : Limits → (ℕ → ℕ) → (Place → Basis) → Scenario → Result Basis Refusal

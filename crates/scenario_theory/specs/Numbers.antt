@@ -1,8 +1,9 @@
 -- The number of each reason to turn a scenario, its record or a sheet away: document 01, 'What is turned away';
 -- document 02, W-202 for 13, W-204 for 14 and W-206 for 15.
-use Rattle.std.specs.Prelude.{ℕ, ◌-◌, List, [], ◌∷◌, get_or}
+use Rattle.std.specs.Prelude.{ℕ, ◌-◌, List, [], ◌∷◌, get_or, Result, Ok, Err}
 use Rattle.scenario_theory.specs.declared.Refusal.{Refusal}
 use Rattle.scenario_theory.specs.declared.Refusal.TheVariants as E
+use Rattle.scenario_theory.specs.Checks.{unless_refused}
 
 abbrev pub refusal_number : Refusal → ℕ
 refusal_number E.Model = 1
@@ -28,6 +29,10 @@ reasons =
     E.MissingField ∷ E.EmptyMap ∷ E.DefaultWritten ∷ E.BufferTooShort ∷ E.ProjectionExceedsRupture ∷
     E.TooManyScenarios ∷ E.NoneAccepted ∷ []
 
--- and the reason that has a number from 1 to 15
+-- and the reason that has a number from 1 to 15; no other number has one, and what this says of it is never used
 abbrev pub with_number : ℕ → Refusal
 with_number k = get_or reasons (k - 1) E.NoneAccepted
+
+-- what a check answers, by its number
+abbrev pub check_with : ℕ → Result (Unit {0}) Refusal
+check_with k = unless_refused k (Ok tt) (Err (with_number k))

@@ -1,5 +1,5 @@
 // A scenario, the checks 9 for the distance, 13 and 1 to 6, and the rows of periods: types, definitions and laws. There
-// is no code.
+// is no code but that of its types.
 #![tactic(auto)]
 
 ghost use Rattle.std.specs.Prelude.{◌≡◌};
@@ -82,24 +82,24 @@ pub enum Basis {
 // and document 02's, W-202, W-204 and W-206.
 #[derive(Clone, Copy, PartialEq, Eq)]
 pub enum Refusal {
-    // 1 to 6: it is none of the two, or it is beyond the model's limits
+    // 1 to 6: the model is none of the two; the others are beyond the model's limits
     Model,
     Magnitude,
     Distance,
     Velocity,
     Mechanism,
     Period,
-    // 7: the bytes end before the record does
+    // 7, "cut short": the bytes end before the record does
     Truncated,
-    // 8: the map has a bit that no field has
+    // 8, "spare bit": the map has a bit that no field has
     ReservedBit,
-    // 9: a field without which there is no scenario is missing, or the distance that the model reads
+    // 9, "wanting": a field without which there is no scenario is missing, or the distance that the model reads
     MissingField,
-    // 10: the map has no bit
+    // 10, "blank": the map has no bit
     EmptyMap,
-    // 11: a field is written with the number that it has where it is absent
+    // 11, "plain default": a field is written with the number that it has where it is absent
     DefaultWritten,
-    // 12: the lent bytes are fewer than the record's
+    // 12, "page full": the lent bytes are fewer than the record's
     BufferTooShort,
     // 13: the surface projection is farther than the rupture
     ProjectionExceedsRupture,

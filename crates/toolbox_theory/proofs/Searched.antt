@@ -37,7 +37,7 @@ none_of [] x other = refl
 none_of (y ∷ ys) x other =
     rw (ne_eqb x y (other 0 (omega arith))) (none_of ys x (λ k h. other (suc k) (omega arith)))
 
-pub record Found (l : List ℕ) (x k : ℕ) : Type 0 where
+pub record Listed (l : List ℕ) (x k : ℕ) : Type 0 where
   pub listed : among l x ≡ true
   pub count : count_below l x ≡ k
 
@@ -55,7 +55,7 @@ module _ (l : List ℕ) (x : ℕ) (up : IsStrictlyIncreasing l) where
     | no r ↦ let same : i ≡ j = omega arith in rw same (omega arith)
   ]
 
-  pub found : (k : ℕ) → IsBinarySearchResult (λ y. nat_cmp y x) l (Ok k) → Found l x k
+  pub found : (k : ℕ) → IsBinarySearchResult (λ y. nat_cmp y x) l (Ok k) → Listed l x k
   found k is =
       let s = searched l x (Ok k) is in_order in
       let e = s.1 in
