@@ -80,7 +80,7 @@ def proof(name, rows):
 
 CODE_HEAD = """// Written by tools/logarithm_tables.py. Two tables of factors that bring a number near 1, with the logarithm of
 // each. They are static, since the compiler copies a const array to the stack at each look-up; the layout would break
-// their rows.
+// their rows. Two look-ups of a line, each into its own table: one for both would be no plainer.
 #![tactic(auto)]
 
 ghost use Rattle.std.specs.Prelude.{◌≡◌};

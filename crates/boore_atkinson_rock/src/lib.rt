@@ -17,8 +17,7 @@ use interval_theory::{Ends, SignedPair};
 use scenario_theory::ProjectionDistance;
 
 // DistanceLimits and a magnitude from 5 to 8 stand in each contract: rock and minus_p, which docs/CONTRACTS.md names,
-// take any that meet them, and so no narrower type. Exact has numbers where SignedPair has ends: one type for both
-// would be named with its parameter in each contract.
+// take any that meet them, and so no narrower type.
 
 // The row of peak acceleration in the tables.
 const PGA: usize = 0;

@@ -15,7 +15,8 @@ fn double(z: i64) -> f64
     z as f64
 }
 
-// The four ends of an answer, each as a double.
+// The four ends of an answer, each as a double. A function and no From: it asks that the ends are small, and From takes
+// any.
 pub fn as_doubles(e: Enclosure<i64>) -> Enclosure<f64>
     requires { SmallEnclosure e }
     ensures { result ≡ doubles_of e }

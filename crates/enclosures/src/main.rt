@@ -44,6 +44,7 @@ fn write_all<W: Write>(output: &mut W, buf: &[u8]) -> Transfer
 }
 
 fn main(rt: HostRuntime) {
+    // Fixed arrays: no heap.
     let mut bytes = [0u8; BYTES_TAKEN];
     let mut page = [0u8; PAGE_MOST];
     let mut error = [0u8; ERROR_MOST];

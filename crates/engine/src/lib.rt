@@ -23,6 +23,8 @@ use interval_theory::Ends;
 use row_neighbours::{boore_atkinson_neighbours, idriss_neighbours};
 use scenario_theory::{Basis, Place, ProjectionDistance, RuptureDistance, Scenario};
 
+// Placed stands in each contract: it speaks of the scenario too, which a Place or a Basis does not hold.
+
 // The median of Idriss at a place, by those of its rows.
 fn idriss_median(s: Scenario, distance: RuptureDistance, place: Place, rows: TwoRows) -> Ends<i64>
     requires placed { Placed idriss idriss_row s.magnitude distance.0 s.velocity s.mechanism s.period place }

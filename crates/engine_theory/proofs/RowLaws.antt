@@ -8,7 +8,8 @@ use lib.Dec.{T as Holds, eqb, leb, leb→le}
 use lib.ListN.{get_or}
 use Rattle.toolbox_theory.specs.Lists.{among}
 use Rattle.toolbox_theory.proofs.Tests.{each}
-use Rattle.toolbox_theory.proofs.ListLaws.{or_right, all, all_at}
+use Rattle.toolbox_theory.proofs.ListLaws.{all, all_at}
+use Rattle.std.proofs.lemmas.Bool.{or_right}
 use Rattle.logarithm_theory.specs.Promise.{LnDomain}
 use Rattle.logarithm_theory.specs.Evaluation.{ln_of}
 use Rattle.interpolation_theory.specs.declared.Neighbours.{Neighbours}
@@ -37,7 +38,7 @@ pub record Tabled (m : Limits) (row : ℕ → ℕ) (list : List ℕ) : Type 0 wh
 
 pub idriss_tabled : Tabled idriss idriss_row idriss.periods
 idriss_tabled = record {
-  listed = λ t e. sym (idriss_printed_lem t (or_right (eqb t 0) e) ∙ printed_itself t e);
+  listed = λ t e. sym (idriss_printed_lem t (or_right (eqb t 0) _ e) ∙ printed_itself t e);
   few = idriss_row_lem;
   sizes = tt;
   between = idriss_between;
@@ -45,7 +46,7 @@ idriss_tabled = record {
 
 pub boore_atkinson_tabled : Tabled boore_atkinson boore_atkinson_row (0 ∷ boore_atkinson.periods)
 boore_atkinson_tabled = record {
-  listed = λ t e. sym (boore_atkinson_printed t (or_right (eqb t 0) e));
+  listed = λ t e. sym (boore_atkinson_printed t (or_right (eqb t 0) _ e));
   few = boore_atkinson_row_lem;
   sizes = tt;
   between = boore_atkinson_between;
@@ -90,7 +91,7 @@ module _ {m : Limits} {row : ℕ → ℕ} {list : List ℕ} (tabled : Tabled m r
           above = b.above;
           below = b.below;
         };
-        last = rw (← b.next) (tabled.few _ (or_right (eqb (neighbour_above m T) 0) b.second));
+        last = rw (← b.next) (tabled.few _ (or_right (eqb (neighbour_above m T) 0) _ b.second));
         domain = omega (arith, low, high, b.above, b.below);
       }
 

@@ -15,7 +15,7 @@ use enclosures_theory::{Failed, Transfer};
 // Room for the line and its end, `error_most`.
 pub const ERROR_MOST: usize = 92;
 
-// Puts a text after what a line has.
+// Puts a text after what a line has, one by one: the edit first_byte_again puts the first byte in all places.
 pub fn push_text<const N: usize>(line: &mut ArrayVec<u8, N>, text: &[u8])
     requires { array_vec_len line.old + length text.now ≤ N }
     ensures { line.new.items ≡ line.old.items ++ text.now }

@@ -12,6 +12,7 @@ use sheet::answer_sheet;
 
 // Answers the first count of the scenarios, names the accepted one with the greatest high end of the median, and marks
 // those that may be the greatest. With more than 64 scenarios, and where none is accepted, nothing is named or marked.
+// A count beside 64 places, as C has them.
 pub fn governing(count: usize, scenarios: [Scenario; 64]) -> FlatScreening
     ensures value { result ≡ governing_of count scenarios }
     ensures governing_promise { GoverningPromise count scenarios result }

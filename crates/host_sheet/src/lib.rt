@@ -11,6 +11,7 @@ use sheet_head::head_of;
 
 // The scenarios at the places that are answered with this count, the first so many or none; the other places are not
 // read, and what stands for them are zeros, with no distances.
+// A function and no From: it takes C's count, too.
 pub fn scenarios_from(count: usize, places: [HostScenario; 64]) -> [Scenario; 64]
     ensures { result ≡ filled scenario_from (scenario_from no_fields) (answered_count count) places }
 {

@@ -13,7 +13,7 @@ ghost use Rattle.interval_theory.specs.Signed.{ends_of};
 use interval_theory::{Ends, SignedPair};
 
 // The steps are functions and no methods or operators: an impl stands in the crate of its type, and what rounds is kept
-// out of interval_theory, on which the models' definitions rest.
+// out of interval_theory, on whose check the definitions of both models wait.
 
 // Equal ends.
 pub fn exactly(n: u64) -> Ends<u64>
@@ -80,6 +80,8 @@ pub fn hull<T: Ord + Copy>(a: Ends<T>, b: Ends<T>) -> Ends<T>
         high: a.high.max(b.high),
     }
 }
+
+// Moderate stands in plus, minus and ends, which take any pair that meets it; a type with an invariant is narrower.
 
 // Two signed pairs added.
 #[tactic(auto, unfolding(interval_theory::specs::Signed::plus_of))]

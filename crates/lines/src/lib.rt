@@ -35,7 +35,7 @@ fn push_ends<const N: usize>(line: &mut ArrayVec<u8, N>, e: Ends<i64>)
 }
 
 // Puts the line of a refusal with any number, without its line end, after what a page has.
-#[tactic(auto, using(report_theory::proofs::LineLaws::lines), unfolding(report_theory::specs::Lines::refused_line_of, report_theory::specs::Text::spaced))]
+#[tactic(auto, using(report_theory::proofs::LineLaws::lines), unfolding(report_theory::specs::Text::spaced))]
 pub fn push_refused<const N: usize>(page: &mut ArrayVec<u8, N>, position: u64, number: u8)
     requires { array_vec_len page.old + 110 ≤ N }
     ensures { page.new.items ≡ page.old.items ++ refused_line_of position number }

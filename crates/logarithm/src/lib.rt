@@ -11,6 +11,8 @@ pub use interval_theory::Ends;
 use logarithm_tables as table;
 use logarithm_theory::Scaled;
 
+// LnDomain stands in each contract: ln, which docs/CONTRACTS.md names, takes any two numbers that meet it.
+
 // a/b, rounded down.
 #[tactic(auto, unfolding(logarithm_theory::specs::Evaluation::scaled_of))]
 fn scale(a: u64, b: u64) -> Scaled

@@ -11,7 +11,8 @@ use interpolation_theory::{Neighbours, Step};
 use interval::exactly;
 use interval_theory::SignedPair;
 
-// Two neighbouring rows by their periods, T1 and T2. Where both are known, the compiler works the logarithm out.
+// Two neighbouring rows by their periods, T1 and T2. LnDomain stands
+// here and below as in logarithm: any two numbers that meet it are taken.
 pub fn neighbours(lower: u16, upper: u16) -> Neighbours
     requires { LnDomain upper lower }
     ensures { result ≡ neighbours_of lower upper }

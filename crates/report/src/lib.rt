@@ -10,7 +10,7 @@ use engine_theory::Answer;
 use lines::{push_line, push_refused};
 
 // Puts the line of an answer, without its line end, at the front of out, and answers its length; where it does not fit,
-// the length is 0 and out is not touched.
+// the length is 0, as length_on has it, and out is not touched.
 pub fn line(position: u64, a: Answer, out: &mut [u8]) -> usize
     ensures value { result ≡ length_on (line_of position a) out.old }
     ensures out_after { out.new ≡ bytes_after (line_of position a) out.old }

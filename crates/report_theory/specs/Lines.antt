@@ -15,7 +15,7 @@ unfoldable pub line_of : ℕ → Answer → List ℕ
 line_of position a = decimal position ++ spaced (words_of a)
 
 -- and that of a refusal with any number
-unfoldable pub refused_line_of : ℕ → ℕ → List ℕ
+abbrev pub refused_line_of : ℕ → ℕ → List ℕ
 refused_line_of position k = decimal position ++ spaced ((82 ∷ []) ∷ decimal k ∷ [])
 
 -- '"end" with the count of those record lines', without its line end

@@ -7,7 +7,7 @@ use native.Mathlib.Omega.{arith}
 use lib.Dec.{eqb}
 use lib.ListN.{get_or}
 use Rattle.toolbox_theory.specs.Lists.{among}
-use Rattle.toolbox_theory.proofs.ListLaws.{or_right}
+use Rattle.std.proofs.lemmas.Bool.{or_right}
 use Rattle.std.specs.Prelude.{Option, Some, None, Result, Ok, Err}
 use Rattle.scenario_theory.specs.declared.Place.{Place}
 use Rattle.scenario_theory.specs.declared.Place.TheVariants as P
@@ -37,7 +37,7 @@ Tabled None = Unit {0}
 module _ (first : ℕ) (m : Limits) (row : ℕ → ℕ) (l : Listed first m row)
     (few : (t : ℕ) → has_row m t ≡ true → row t < row_count) (t : ℕ) where
   tabled_at : (t : ℕ) → among m.periods t ≡ true → has_row m t ≡ true
-  tabled_at t e = or_right (eqb t 0) e
+  tabled_at t e = or_right (eqb t 0) _ e
 
   -- what holds of the place by the definitions holds of that by counting
   by_place : (K : Option Place → Type 0) → (beyond_periods t ≡ true → K None) →

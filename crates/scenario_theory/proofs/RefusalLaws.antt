@@ -9,7 +9,8 @@ use borrow.Author.Rules.{rules}
 use borrow.Author.Tests.{ltb-false, eqb-true, not-false}
 use lib.Dec.{T, eqb, ltb, ltb→lt}
 use Rattle.toolbox_theory.specs.Lists.{among}
-use Rattle.toolbox_theory.proofs.ListLaws.{neither, or_cases, up_to, at_most}
+use Rattle.toolbox_theory.proofs.ListLaws.{up_to, at_most}
+use Rattle.std.proofs.lemmas.Bool.{or_cases, or_parts}
 use Rattle.scenario_theory.specs.declared.Scenario.{Scenario}
 use Rattle.scenario_theory.specs.Checks.{Range, beyond, ◌when◌}
 use Rattle.scenario_theory.specs.Distances.{projection_number, is_absent, given, exceeds}
@@ -21,7 +22,7 @@ use Rattle.scenario_theory.proofs.CheckLaws.{none_of, not_when}
 -- ---- a scenario that is not refused has the distance that its model reads, and is within the model's limits
 
 not_beyond : (r : Range) (x : ℕ) → beyond r x ≡ false → (r.low ≤ x) × (x ≤ r.high)
-not_beyond r x e = let p = neither (ltb x r.low) (ltb r.high x) e in omega (arith, ltb-false)
+not_beyond r x e = let p = or_parts (ltb x r.low) (ltb r.high x) e in omega (arith, ltb-false)
 
 -- a period that is answered is 0, or from 10 to 10000, both included, and no other is
 beyond_is : (r : Range) (x : ℕ) → beyond r x ≡ true → (x < r.low) ⊎ (r.high < x)
@@ -104,7 +105,7 @@ of_model s e = let a = none_applies s e in go (eqb s.model 1) (eqb s.model 2) re
         ((a && is_absent (idriss.reads s)) || (b && is_absent (boore_atkinson.reads s))) ≡ false →
         cond a (refusal_by idriss s) (cond b (refusal_by boore_atkinson s) 1) ≡ 0 → Taken s
     go true b p q d e =
-        inl (eqb-true s.model 1 p, within_by idriss s (neither (is_absent (idriss.reads s)) _ d).0 e)
+        inl (eqb-true s.model 1 p, within_by idriss s (or_parts (is_absent (idriss.reads s)) _ d).0 e)
     go false true p q d e = inr (eqb-true s.model 2 q, within_by boore_atkinson s d e)
     go false false p q d e = absurd (omega arith)
 

@@ -11,8 +11,10 @@ use lib.Dec.{T, eqb, ltb, ltb→lt, eqb→eq}
 use lib.ListN.{length, get_or}
 use Rattle.toolbox_theory.specs.Lists.{among, count_below}
 use Rattle.toolbox_theory.proofs.Tests.{is_true, each, by_test, all_below, below}
-use Rattle.toolbox_theory.proofs.ListLaws.{Missed, earlier, missed, neither, all, all_at, rising, Around, around}
+use Rattle.toolbox_theory.proofs.ListLaws.{Missed, earlier, missed, all, all_at, rising, Around, around}
+use Rattle.std.proofs.lemmas.Bool.{or_parts}
 use Rattle.toolbox_theory.proofs.ListLaws.{among_at, between_places, greatest_below, least_above}
+use Rattle.std.proofs.lemmas.Bool.{or_parts}
 use Rattle.std.specs.Prelude.{Option, Some, None}
 use Rattle.scenario_theory.specs.declared.Place.{Place}
 use Rattle.scenario_theory.specs.declared.Place.TheVariants as P
@@ -83,7 +85,7 @@ module _ (first : ℕ) (m : Limits) (row : ℕ → ℕ) where
     -- just where it is answered, if it is not in the list
     answered_inside : has_row m t ≡ false → beyond_periods t ≡ false → Inside
     answered_inside none ok =
-        let not_in = neither (eqb t 0) (among m.periods t) none in
+        let not_in = or_parts (eqb t 0) (among m.periods t) none in
         let first_in_lem = among_at m.periods 0 l.some in
         let other : t ≡ answered_periods.low → ⊥ = λ e. false≢true (sym not_in.1 ∙ rw (e, ← l.least) first_in_lem) in
         let some : t ≡ 0 → ⊥ = λ e. false≢true (sym not_in.0 ∙ eq-eqb t 0 e) in
@@ -116,7 +118,7 @@ module _ (first : ℕ) (m : Limits) (row : ℕ → ℕ) where
       inside = answered_inside none ok
 
       not_listed : among m.periods t ≡ false
-      not_listed = (neither (eqb t 0) (among m.periods t) none).1
+      not_listed = (or_parts (eqb t 0) (among m.periods t) none).1
 
       below_is : neighbour_below m t ≡ get_or m.periods (n - 1) 0
       unfolding neighbour_below
@@ -147,13 +149,13 @@ module _ (first : ℕ) (m : Limits) (row : ℕ → ℕ) where
     unfolding place_among
     untabled false none e =
         let h = answered_inside none e in
-        let not_in = neither (eqb t 0) (among m.periods t) none in
+        let not_in = or_parts (eqb t 0) (among m.periods t) none in
         let before = below_is none e in
         let k = number (n - 1) (omega (arith, h)) in
         rw (not_in.0, not_in.1, lt-ltb 0 n h.0, lt-ltb n (length m.periods) h.1, before, k)
         (ap (λ i. Some (P.Between i)) (omega (arith, h.0)))
     untabled true none e =
-        let not_in = neither (eqb t 0) (among m.periods t) none in
+        let not_in = or_parts (eqb t 0) (among m.periods t) none in
         rw (not_in.0, not_in.1)
         (by_test (ltb 0 n && ltb n (length m.periods)) (λ c. c ≡ None)
         (λ q. absurd (outside_inside e (each (ltb 0 n) (ltb n (length m.periods)) (ltb→lt _ _) (ltb→lt _ _) q)))

@@ -82,54 +82,38 @@ pub enum Basis {
 // and document 02's, W-202, W-204 and W-206.
 #[derive(Clone, Copy, PartialEq, Eq)]
 pub enum Refusal {
-    // 1 to 6: the model is none of the two; the others are beyond the model's limits
-    Model,
-    Magnitude,
-    Distance,
-    Velocity,
-    Mechanism,
-    Period,
-    // 7, "cut short": the bytes end before the record does
-    Truncated,
-    // 8, "spare bit": the map has a bit that no field has
-    ReservedBit,
-    // 9, "wanting": a field without which there is no scenario is missing, or the distance that the model reads
-    MissingField,
-    // 10, "blank": the map has no bit
-    EmptyMap,
-    // 11, "plain default": a field is written with the number that it has where it is absent
-    DefaultWritten,
-    // 12, "page full": the lent bytes are fewer than the record's
-    BufferTooShort,
-    // 13: the surface projection is farther than the rupture
-    ProjectionExceedsRupture,
-    // 14: there are more than 64
-    TooManyScenarios,
-    // 15: no scenario of the sheet is accepted
-    NoneAccepted,
+    // the model is none of the two; the others are beyond the model's limits
+    Model = 1,
+    Magnitude = 2,
+    Distance = 3,
+    Velocity = 4,
+    Mechanism = 5,
+    Period = 6,
+    // "cut short": the bytes end before the record does
+    Truncated = 7,
+    // "spare bit": the map has a bit that no field has
+    ReservedBit = 8,
+    // "wanting": a field without which there is no scenario is missing, or the distance that the model reads
+    MissingField = 9,
+    // "blank": the map has no bit
+    EmptyMap = 10,
+    // "plain default": a field is written with the number that it has where it is absent
+    DefaultWritten = 11,
+    // "page full": the lent bytes are fewer than the record's
+    BufferTooShort = 12,
+    // the surface projection is farther than the rupture
+    ProjectionExceedsRupture = 13,
+    // there are more than 64
+    TooManyScenarios = 14,
+    // no scenario of the sheet is accepted
+    NoneAccepted = 15,
 }
 
 impl From<Refusal> for u8 {
     ghost from_gives = { λ e k. k ≡ refusal_number e };
 
     fn from(e: Refusal) -> u8 {
-        match e {
-            Refusal::Model => 1,
-            Refusal::Magnitude => 2,
-            Refusal::Distance => 3,
-            Refusal::Velocity => 4,
-            Refusal::Mechanism => 5,
-            Refusal::Period => 6,
-            Refusal::Truncated => 7,
-            Refusal::ReservedBit => 8,
-            Refusal::MissingField => 9,
-            Refusal::EmptyMap => 10,
-            Refusal::DefaultWritten => 11,
-            Refusal::BufferTooShort => 12,
-            Refusal::ProjectionExceedsRupture => 13,
-            Refusal::TooManyScenarios => 14,
-            Refusal::NoneAccepted => 15,
-        }
+        e as u8
     }
 }
 

@@ -52,7 +52,7 @@ fn marks(low: i64, numbers: &[u8], highs: &[i64]) -> [u8; 64]
     marks
 }
 
-// A refusal.
+// A refusal, by the number that FlatSheet has.
 fn none(number: u8) -> FlatScreening
     ensures { result ≡ no_screening number }
 {

@@ -6,6 +6,7 @@ use mathlib.Core.List.{List, [], ◌∷◌, map}
 use Prim.Native.Nat.{ℕ, zero, suc, ◌+◌, ◌≤◌, ◌<◌}
 use native.Mathlib.Decide.{dec_lt}
 use native.Mathlib.Omega.{arith}
+use Rattle.std.proofs.lemmas.Bool.{or_cases, or_parts, or_right}
 use borrow.Author.Tests.{eq-eqb, ne_eqb, eqb-true, lt-ltb, le-ltb}
 use lib.Dec.{T, eqb, ltb, leb, leb→le, ltb→lt, eqb→eq}
 use Rattle.toolbox_theory.proofs.Tests.{is_true, and_left, and_right, by_test}
@@ -25,18 +26,6 @@ pub missed : (before : Type 0) (l : List ℕ) (x : ℕ) → Missed before l x �
 missed before [] x m = refl
 missed before (y ∷ ys) x m =
     rw (ne_eqb x y (earlier (before × (x ≡ y → ⊥)) ys x m).1) (missed (before × (x ≡ y → ⊥)) ys x m)
-
-pub or_right : (b : Bool) {c : Bool} → c ≡ true → (b || c) ≡ true
-or_right true e = refl
-or_right false e = e
-
-pub neither : (b c : Bool) → (b || c) ≡ false → (b ≡ false) × (c ≡ false)
-neither true c e = absurd (false≢true (sym e))
-neither false c e = (refl, e)
-
-pub or_cases : (b c : Bool) → (b || c) ≡ true → (b ≡ true) ⊎ (c ≡ true)
-or_cases true c e = inl refl
-or_cases false c e = inr e
 
 -- what a test shows of every number of a list, it shows of one that is among them
 abbrev pub all : (ℕ → Bool) → List ℕ → Bool
@@ -126,7 +115,7 @@ around (y ∷ ys) x t (suc i) h =
 pub among_at : (l : List ℕ) (i : ℕ) → i < length l → among l (get_or l i 0) ≡ true
 among_at [] i h = absurd (omega arith)
 among_at (y ∷ ys) zero h = rw (eq-eqb y y refl) refl
-among_at (y ∷ ys) (suc i) h = or_right (eqb (get_or ys i 0) y) (among_at ys i (omega arith))
+among_at (y ∷ ys) (suc i) h = or_right (eqb (get_or ys i 0) y) _ (among_at ys i (omega arith))
 
 -- x, which is none of them, lies between those in the places n and n + 1, where n + 1 of them are below it
 pub between_places : (l : List ℕ) (x n : ℕ) → T (rising l) → among l x ≡ false → n + 1 ≡ count_below l x →
@@ -204,12 +193,12 @@ least_above (y ∷ ys) x zero t none e h = elim (count_of y ys x (and_left (all 
   | inl p ↦ absurd (omega arith)
   | inr p ↦
       let later = and_left (all (ltb y) ys) (rising ys) t in
-      let other : x ≡ y → ⊥ = λ q. false≢true (sym (neither (eqb x y) (among ys x) none).0 ∙ eq-eqb x y q) in
+      let other : x ≡ y → ⊥ = λ q. false≢true (sym (or_parts (eqb x y) (among ys x) none).0 ∙ eq-eqb x y q) in
       rw (lt-ltb x y (omega (arith, p.0, other))) (least_first y _ (all_filter (ltb y) (λ t. ltb x t) ys later))
 ]
 least_above (y ∷ ys) x (suc n) t none e h = elim (count_of y ys x (and_left (all (ltb y) ys) (rising ys) t)) [
   | inl p ↦
-      let other = (neither (eqb x y) (among ys x) none).1 in
+      let other = (or_parts (eqb x y) (among ys x) none).1 in
       let rest = least_above ys x n (and_right (all (ltb y) ys) (rising ys) t) other (omega arith) (omega arith) in
       rw (le-ltb x y (omega arith)) rest
   | inr p ↦ absurd (omega arith)
