@@ -69,10 +69,9 @@ pub fn median(k: usize, s: Scenario, distance: ProjectionDistance) -> Ends<i64>
 }
 
 // The medians by row `last` and, where k is less, by the row before it. What rows have in common is worked out once: p,
-// what the nonlinear part makes of it, and ln(V/760).
-// One loop of one or two turns, in both models: a call for each row costs 28 instructions and more, and one loop for both
-// would take the row's function, and ask what it may be called at and answers. k and last stay two numbers: any k up to
-// last is taken, and a Place is narrower.
+// what the nonlinear part makes of it, and ln(V/760). One loop of one or two turns, in both models: a call for each row
+// costs 28 instructions and more, and one loop for both would take the row's function, and ask what it may be called at
+// and answers. k and last stay two numbers: any k up to last is taken, and a Place is narrower.
 pub fn median_rows(k: usize, last: usize, s: Scenario, distance: ProjectionDistance) -> TwoRows
     requires { MedianDomain last s.magnitude distance.0 s.velocity × (k ≤ last) }
     ensures { result ≡ two_rows_of k last (λ j. median_pair_of (row_at j) s.magnitude distance.0 s.velocity

@@ -17,8 +17,8 @@ use interval::{exactly, hull, multiple, product, sum};
 use interval_theory::{Ends, SignedPair};
 
 // SiteLimits, V1 ≤ v and l ≡ vs30_ln_of v stand in each contract: linear and nonlinear_part, which docs/CONTRACTS.md
-// names, take any row, velocity and logarithm that meet them, and so no narrower type; and b.low ≤ b.high, as Ends holds
-// any two numbers.
+// names, take any row, velocity and logarithm that meet them, and so no narrower type; and b.low ≤ b.high, as Ends
+// holds any two numbers.
 
 // ln(0.1/0.06), 1/ln(300/180), 1/ln(760/300), and c and d over the slope.
 const MINUS_LN_LOW: Ends<u64> = Ends {

@@ -10,8 +10,8 @@ pub struct EffectiveDistance {
     pub km: Ends<u64>,
 }
 
-// gain − loss. Exact and SignedPair stay two: the definitions name each, and one type over ends and numbers would need a
-// name for either again.
+// gain − loss. Exact and SignedPair stay two: the definitions name each, and one type over ends and numbers would need
+// a name for either again.
 #[derive(Clone, Copy)]
 pub struct Exact {
     pub gain: u64,

@@ -44,8 +44,8 @@ pub fn push_decimal<const N: usize>(line: &mut ArrayVec<u8, N>, n: u64)
     let _ = line.try_extend_from_slice(digits_of(n).as_slice());
 }
 
-// Puts a line at the front of out, and answers its length; where it does not fit, that is 0 and out is not touched. (0 and
-// no Option: length_on, in the clause, is 0 there, and a function that could not fail still cannot.)
+// Puts a line at the front of out, and answers its length; where it does not fit, that is 0 and out is not touched. (0
+// and no Option: length_on, in the clause, is 0 there, and a function that could not fail still cannot.)
 #[tactic(auto, unfolding(report_theory::specs::Lines::length_on, report_theory::specs::Lines::bytes_after))]
 pub fn put_whole(line: &[u8], out: &mut [u8]) -> usize
     ensures value { result ≡ length_on line.now out.old }

@@ -1,5 +1,5 @@
-// Answers: their types, what the models give, what is promised, what is computed, and laws. There is no code but that of
-// its types.
+// Answers: their types, what the models give, what is promised, what is computed, and laws. There is no code but that
+// of its types.
 #![tactic(auto)]
 
 ghost use Rattle.std.specs.Prelude.{◌≡◌};

@@ -45,7 +45,8 @@ fn faulting(mechanism: u8) -> u64
     }
 }
 
-// RowLimits and M from 4.5 to 7.9 stand in each contract: Row, a public type, holds any parts, and keeps no invariant; m is a plain number, as gains_of takes it.
+// RowLimits and M from 4.5 to 7.9 stand in each contract: Row, a public type, holds any parts, and keeps no invariant;
+// m is a plain number, as gains_of takes it.
 
 // The parts of α1 + α2 M + α3 (8.5 − M)² + γ R + φ F that are above zero.
 #[tactic(auto, unfolding(idriss_theory::specs::Evaluation::gains_of))]
@@ -98,9 +99,8 @@ fn site_term(r: Row, l: Ends<u64>) -> Ends<u64>
 }
 
 // The median by row k of Table 3 where `table_3`, else of Table 2, as a gain less a loss. What rows have in common is
-// worked out before: ln(R + 10) and ln V.
-// `table_3` stays a bool, as in idriss_tables, and k a usize: MedianDomain has it below row_count. What rows share passes
-// in parts: a struct of it would be named in the one function that reads it.
+// worked out before: ln(R + 10) and ln V. `table_3` stays a bool, as in idriss_tables, and k a usize: MedianDomain has
+// it below row_count. What rows share passes in parts: a struct of it would be named in the one function that reads it.
 #[tactic(auto, unfolding(interval_theory::specs::Natural::sum_of, idriss_theory::specs::Evaluation::median_pair_by))]
 fn median_by_row(
     table_3: bool,
@@ -142,10 +142,9 @@ pub fn median(table_3: bool, k: usize, s: Scenario, distance: RuptureDistance) -
 }
 
 // The medians by row `last` of that table and, where k is less, by the row before it. What rows have in common is
-// worked out once: ln(R + 10) and ln V.
-// One loop of one or two turns, in both models: a call for each row costs 28 instructions and more, and one loop for both
-// would take the row's function, and ask what it may be called at and answers. k and last stay two numbers: any k up to
-// last is taken, and a Place is narrower.
+// worked out once: ln(R + 10) and ln V. One loop of one or two turns, in both models: a call for each row costs 28
+// instructions and more, and one loop for both would take the row's function, and ask what it may be called at and
+// answers. k and last stay two numbers: any k up to last is taken, and a Place is narrower.
 pub fn median_rows(
     table_3: bool,
     k: usize,

@@ -61,9 +61,8 @@ static TABLE_3: [Row; 22] = [
     Row(0, 44387, 8393, 0, 0, 35, 14195, 1145, 586, 61, 0),
 ];
 
-// Row k of Table 3 where `table_3`, else of Table 2.
-// `table_3` stays a bool: row_at and takes_table3 of the definitions have one, and an enum would be turned into it in each
-// clause. k stays a usize: any below row_count is answered.
+// Row k of Table 3 where `table_3`, else of Table 2. `table_3` stays a bool: row_at and takes_table3 of the definitions
+// have one, and an enum would be turned into it in each clause. k stays a usize: any below row_count is answered.
 pub fn row_at(table_3: bool, k: usize) -> Row
     requires { k < row_count }
     ensures { (result ≡ parts (row_at table_3 k)) × RowLimits result }

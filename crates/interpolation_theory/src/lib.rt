@@ -22,8 +22,8 @@ pub struct Step {
     pub whole: Ends<u64>,
 }
 
-// The values by two rows; where there is only one, it is the upper, and the lower is 0: zeros and no Option, as Place has
-// said whether there is a row before, and two_rows_of, in the clauses, has zeros for it.
+// The values by two rows; where there is only one, it is the upper, and the lower is 0: zeros and no Option, as Place
+// has said whether there is a row before, and two_rows_of, in the clauses, has zeros for it.
 #[derive(Clone, Copy)]
 pub struct TwoRows {
     pub lower: SignedPair,

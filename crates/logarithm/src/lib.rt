@@ -88,8 +88,9 @@ pub fn ln_hundredths(a: u64) -> Ends<u64>
     scaled_ln(s.octave, s.mantissa)
 }
 
-// The greatest whole number whose square is at most n, by Newton's steps down from above. The library's isqrt was tried:
-// it halves an interval 32 times, 404 instructions more, and Boore-Atkinson then misses the bar of 20 beside Arb.
+// The greatest whole number whose square is at most n, by Newton's steps down from above. The library's isqrt was
+// tried: it halves an interval 32 times, 404 instructions more, and Boore-Atkinson then misses the bar of 20 beside
+// Arb.
 fn whole_root(n: u64) -> u64
     requires { n < 2 ^ 63 }
     ensures { result ≡ whole_root n }

@@ -28,8 +28,8 @@ fn word_if(s: &[u8], stands: bool, at: usize) -> Option<u16>
     if stands { Some(word(s, at)) } else { None }
 }
 
-// The scenario of the record at the front of s. The places are worked out as record_length does: a struct of four for two
-// users is no plainer.
+// The scenario of the record at the front of s. The places are worked out as record_length does: a struct of four for
+// two users is no plainer.
 #[tactic(auto, using(record_theory::proofs::FieldLaws::fields_fit))]
 pub fn fields(s: &[u8]) -> Scenario
     requires { Complete s.now }

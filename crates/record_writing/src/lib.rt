@@ -22,8 +22,8 @@ fn map_byte(x: Scenario) -> u8
     more_if(period, x.projection.is_some(), 64) as u8
 }
 
-// Puts a field of two bytes at a place, unless it is left out, and answers the place after it. The bytes and a place go in
-// here and below, and the next place comes out: the caller's later bytes stay.
+// Puts a field of two bytes at a place, unless it is left out, and answers the place after it. The bytes and a place go
+// in here and below, and the next place comes out: the caller's later bytes stay.
 fn put_word(out: &mut [u8], at: usize, x: Option<u16>) -> usize
     requires { at + length (part_of 2 x) ≤ length out.old }
     ensures { Put at (part_of 2 x) out.old result out.new }

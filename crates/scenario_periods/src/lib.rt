@@ -9,8 +9,8 @@ use scenario_rows::{boore_atkinson_period, idriss_period};
 pub use scenario_theory::RowPeriods;
 use scenario_theory::{Basis, ProjectionDistance, Refusal, RuptureDistance, Scenario};
 
-// The periods of the two rows that a median at a period rests on: equal where the period has a row of its own, else
-// its neighbours in the tables of the model. The model stays a number: row_periods_of answers for any, and a type of two
+// The periods of the two rows that a median at a period rests on: equal where the period has a row of its own, else its
+// neighbours in the tables of the model. The model stays a number: row_periods_of answers for any, and a type of two
 // would ask more. The checks look them up, of a scenario that is accepted but for these two.
 pub fn row_periods(model: u8, period: u16) -> Result<RowPeriods, Refusal>
     ensures { result ≡ row_periods_of model period }
