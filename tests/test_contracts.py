@@ -24,6 +24,9 @@ WIDTH = 'idriss_width'
 # A function that other crates see: its name, and all that stands before its body.
 FUNCTION = re.compile(r'^pub (?:extern "C" )?fn (\w+)\(.*?^(?=\{)', re.M | re.S)
 ENSURES = re.compile(r'^    ensures [^\n]*\n(?:        [^\n]*\n)*', re.M)
+# A function of an impl that other crates see, with its promise, up to its body.
+METHOD = re.compile(r'^    pub fn \w+\([^{]*\n(?:        requires [^\n]*\n)*'
+                    r'        ensures \{ ([^\n]*) \}\n', re.M)
 LISTED = re.compile(r'^- `(crates/\w+/specs/\w+\.antt)`$', re.M)
 
 # A crate and its theory, as they should be; each case adds one file.
@@ -188,6 +191,54 @@ def method_added(root):
     return [f'{path}:2: added has no ensures']
 
 
+def method_not_listed(root):
+    """A pub fn of an impl stands in the source and not on the page."""
+    path = added(root)
+    write(root, path, 'impl Made {\n    pub fn added(x: u64) -> u64\n        ensures { result ≡ x }\n'
+          '    {\n        x\n    }\n}\n')
+    return [f'  `{path}`\n', '+    pub fn added(x: u64) -> u64']
+
+
+def method_promise_changed(root):
+    """The promise of a pub fn of an impl is another one."""
+    for path in files(root, crates(root), 'src', '.rt'):
+        match = METHOD.search(read(root, path))
+        if match:
+            change(root, path, match[0], match[0].replace(match[1], 'result ≡ result'))
+            return [f'  `{path}`', '+        ensures { result ≡ result }']
+    raise Fault('no impl has a pub fn with a promise')
+
+
+def trait_without_promise(root):
+    """A function of a trait has no contract."""
+    path = added(root)
+    write(root, path, 'pub trait Made {\n    fn added(self) -> u64;\n}\n')
+    return [f'{path}:2: added has no ensures']
+
+
+def body_left_out(root):
+    """A function that is no trait's has no body."""
+    path = added(root)
+    write(root, path, 'fn added(x: u64) -> u64;\n')
+    return [f'{path}:1: added has no body']
+
+
+def trait_with_requires(root):
+    """A function of a trait has a requires in a crate that is open to callers."""
+    path = os.path.join(os.path.dirname(function(root, crates(root, OPEN))[0]), 'added.rt')
+    write(root, path, 'pub trait Made {\n    fn added(self) -> u64\n        requires { ⊥ }\n'
+          '        ensures { result ≡ 0 };\n}\n')
+    return [f'{path}:2: added has a requires']
+
+
+def form_unknown(root):
+    """A function stands where the tool does not look for one."""
+    path = added(root)
+    write(root, path, 'macro_rules! made {\n    () => {\n        pub fn added(x: u64) -> u64 {\n'
+          '            x\n        }\n    };\n}\n')
+    return [f'{path}:1: a form that this tool does not know: macro_rules! made {{']
+
+
 def trait_unsaid(root):
     """An impl of a trait does not say what it gives."""
     path = added(root)
@@ -307,10 +358,11 @@ def crates_unnamed(root):
 
 CASES = (promise_deleted, every_promise_deleted, leaf_without_promise, condition_added,
          width_changed, definition_changed, import_changed, module_added, function_not_listed,
-         method_added, trait_unsaid, function_hidden, theory_with_function, definitions_beside_theory,
-         law_beside_theory, law_below, theory_on_code, proof_in_theory, crate_closed, line_cut,
-         line_removed, file_missing, definition_chosen, definition_missing, crate_missing,
-         crates_unnamed)
+         method_added, method_not_listed, method_promise_changed, form_unknown, trait_unsaid,
+         trait_without_promise, trait_with_requires, body_left_out, function_hidden,
+         theory_with_function, definitions_beside_theory, law_beside_theory, law_below,
+         theory_on_code, proof_in_theory, crate_closed, line_cut, line_removed, file_missing,
+         definition_chosen, definition_missing, crate_missing, crates_unnamed)
 
 # What is wrong with an edit, and the line and the words of the message.
 EDITS = (

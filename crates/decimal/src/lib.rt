@@ -3,7 +3,7 @@
 // No Display: to_string and format! need a heap, and the clauses say each byte that is put.
 #![tactic(auto, using(report_theory::proofs::TextLaws::digit_steps))]
 
-ghost use Rattle.std.specs.Prelude.{◌≡◌, ◌+◌, ◌≤◌, ◌++◌, length};
+ghost use Rattle.std.specs.Prelude.{◌≡◌, ◌+◌, ◌≤◌, [], ◌++◌, length};
 ghost use Rattle.arrayvec.specs.ArrayVec.{array_vec_len};
 ghost use Rattle.report_theory.specs.Text.{decimal};
 ghost use Rattle.report_theory.specs.Lines.{length_on, bytes_after};
@@ -21,17 +21,25 @@ pub fn decimal_length(n: u64) -> usize
     decimal_length(n / 10) + 1
 }
 
+// Puts the digits of n where there are none yet. They are lent: handed from call to call, all would be copied for each.
+fn push_digits(digits: &mut ArrayVec<u8, 20>, n: u64)
+    requires { digits.old.items ≡ [] }
+    ensures { digits.new.items ≡ decimal n }
+{
+    if n < 10 {
+        digits.push(b'0' + n as u8);
+        return;
+    }
+    push_digits(digits, n / 10);
+    digits.push(b'0' + (n % 10) as u8);
+}
+
 // The digits of n.
 pub fn digits_of(n: u64) -> ArrayVec<u8, 20>
     ensures { result.items ≡ decimal n }
 {
-    if n < 10 {
-        let mut digits = ArrayVec::new();
-        digits.push(b'0' + n as u8);
-        return digits;
-    }
-    let mut digits = digits_of(n / 10);
-    digits.push(b'0' + (n % 10) as u8);
+    let mut digits = ArrayVec::new();
+    push_digits(&mut digits, n);
     digits
 }
 

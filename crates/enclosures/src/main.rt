@@ -7,8 +7,8 @@ ghost use Rattle.enclosures_theory.specs.Transfers.{ReadInto, WrittenOf};
 
 use enclosures_theory::{Failed, Transfer};
 use error_line::{ERROR_MOST, put_error};
-use page::PAGE_MOST;
-use page_output::put_output;
+use page::Page;
+use page_output::push_output;
 use std::io::{Read, Write};
 
 const BYTES_TAKEN: usize = 4_096;
@@ -46,12 +46,12 @@ fn write_all<W: Write>(output: &mut W, buf: &[u8]) -> Transfer
 fn main(rt: HostRuntime) {
     // Fixed arrays: no heap.
     let mut bytes = [0u8; BYTES_TAKEN];
-    let mut page = [0u8; PAGE_MOST];
+    let mut page = Page::new();
     let mut error = [0u8; ERROR_MOST];
     let got = read_all(&mut rt.stdin(), &mut bytes);
-    let n = put_output(got, &bytes, &mut page);
-    let put = write_all(&mut rt.stdout(), &page[..n]);
-    let m = put_error(got, put, n, &mut error);
+    push_output(&mut page, got, &bytes);
+    let put = write_all(&mut rt.stdout(), page.as_slice());
+    let m = put_error(got, put, page.len(), &mut error);
     // Where this fails, too, there is nowhere left to say so.
     let _ = write_all(&mut rt.stderr(), &error[..m]);
 }

@@ -4,7 +4,7 @@ use mathlib.Core.List.{[], ◌∷◌}
 use mathlib.Core.Logic.{⊎_elim}
 use Prim.Native.Nat.{ℕ, zero, suc, ◌≤◌}
 use native.Mathlib.Omega.{arith}
-use Rattle.std.specs.Prelude.{ℤ, Float, Result, Ok, Err}
+use Rattle.std.specs.Prelude.{ℤ, Float, Ok, Err}
 use Rattle.scenario_theory.specs.declared.Scenario.{Scenario}
 use Rattle.scenario_theory.specs.declared.Basis.{Basis}
 use Rattle.scenario_theory.specs.declared.Refusal.{Refusal}
@@ -18,7 +18,7 @@ use Rattle.idriss_theory.specs.Sigma.{clamp}
 use Rattle.idriss_theory.specs.Evaluation.{sigma_of as idriss_sigma_of}
 use Rattle.idriss_theory.proofs.SigmaLaws.{by_clamped}
 use Rattle.engine_theory.specs.declared.Enclosure.{Enclosure}
-use Rattle.engine_theory.specs.Promise.{Answer, DoublesAnswer, AnswerPromise, sigma_values, SameSigma, DoublesPromise}
+use Rattle.engine_theory.specs.Promise.{Answer, DoublesAnswer, answer_number, AnswerPromise, sigma_values, SameSigma, DoublesPromise}
 use Rattle.engine_theory.specs.Ranges.{AnswerInRange}
 use Rattle.engine_theory.specs.Evaluation.{idriss_enclosure_of, enclosure_of, answer_by, answer_of, SmallAnswer}
 use Rattle.engine_theory.specs.Evaluation.{doubles_of, in_doubles}
@@ -30,11 +30,12 @@ use Rattle.engine_theory.proofs.Assembled.{on_basis}
 module _ (s : Scenario) where
   -- ---- an answer by the number k of a check that is 0 only where the scenario is accepted
 
-  pub promised : (k : ℕ) → (k ≡ 0 → refusal_of s ≡ 0) → k ≤ 15 → AnswerPromise k s (answer_by k s)
-  unfolding answer_by
-  promised zero accepted few =
+  -- whatever k is: the ends where it is 0, else an answer that has the number
+  pub any_answer : {a : Answer} (k : ℕ) → (k ≡ 0 → refusal_of s ≡ 0) → (k ≡ 0 → a ≡ Ok (enclosure_of s)) →
+      ((k ≡ 0 → ⊥) → answer_number a ≡ k) → AnswerPromise k s a
+  any_answer zero accepted ends number =
       let e = sound s (accepted refl) in
-      record {
+      rw (ends refl) (record {
         number = refl;
         enclosed = λ z. record {
           median_low = _;
@@ -46,13 +47,21 @@ module _ (s : Scenario) where
           sigma_enclosed = e.sigma_enclosed;
         };
         refused = λ h. absurd (h refl);
-      }
-  promised (suc k) accepted few =
+      })
+  any_answer {a = Ok e} (suc k) accepted ends number = absurd (omega (arith, number (λ z. omega arith)))
+  any_answer {a = Err r} (suc k) accepted ends number =
       record {
-        number = numbered (suc k) (λ z. omega arith) few;
+        number = number (λ z. omega arith);
         enclosed = λ z. absurd (omega arith);
         refused = λ h. refl;
       }
+
+  -- by the reason that has the number
+  pub promised : (k : ℕ) → (k ≡ 0 → refusal_of s ≡ 0) → k ≤ 15 → AnswerPromise k s (answer_by k s)
+  unfolding answer_by
+  promised zero accepted few = any_answer zero accepted (λ z. refl) (λ h. refl)
+  promised (suc k) accepted few =
+      any_answer (suc k) accepted (λ z. absurd (omega arith)) (λ h. numbered (suc k) h few)
 
   -- every answer of which a contract says `r ≡ answer_by k s` keeps the promise
   pub answers : {r : Answer} (k : ℕ) → (k ≡ 0 → refusal_of s ≡ 0) → k ≤ 15 → r ≡ answer_by k s →

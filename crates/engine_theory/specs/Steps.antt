@@ -1,5 +1,5 @@
 -- What private functions of the engine ask of each other; no promise to callers rests on reading it.
-use Rattle.std.specs.Prelude.{ℕ, ◌+◌, ℤ}
+use Rattle.std.specs.Prelude.{ℕ, ℤ}
 use Rattle.interpolation_theory.specs.declared.Step.{Step}
 use Rattle.interpolation_theory.specs.declared.TwoRows.{TwoRows}
 use Rattle.interpolation_theory.specs.Evaluation.{two_rows_of}

@@ -4,6 +4,7 @@
 #![tactic(auto)]
 
 ghost use Rattle.std.specs.Prelude.{◌≡◌};
+ghost use Rattle.scenario_theory.specs.Distances.{rupture_number, projection_number};
 ghost use Rattle.host_theory.specs.Told.{flagged_of, scenario_from, fields_of, no_fields, told_doubles, told_bounds};
 ghost use Rattle.host_theory.specs.Told.{told_periods, told_reading, told_writing};
 
@@ -118,13 +119,25 @@ impl From<HostScenario> for Scenario {
     }
 }
 
-impl From<Option<u16>> for Flagged {
-    ghost from_gives = { λ d f. f ≡ flagged_of d };
+// Each distance by its own type, so that neither can be taken for the other.
+impl From<Option<RuptureDistance>> for Flagged {
+    ghost from_gives = { λ d f. f ≡ flagged_of (rupture_number d) };
 
-    fn from(d: Option<u16>) -> Flagged {
+    fn from(rupture: Option<RuptureDistance>) -> Flagged {
         Flagged {
-            present: d.is_some().into(),
-            distance: d.unwrap_or(0),
+            present: rupture.is_some().into(),
+            distance: rupture.map_or(0, |d| d.0),
+        }
+    }
+}
+
+impl From<Option<ProjectionDistance>> for Flagged {
+    ghost from_gives = { λ d f. f ≡ flagged_of (projection_number d) };
+
+    fn from(projection: Option<ProjectionDistance>) -> Flagged {
+        Flagged {
+            present: projection.is_some().into(),
+            distance: projection.map_or(0, |d| d.0),
         }
     }
 }
@@ -134,8 +147,8 @@ impl From<Scenario> for HostScenario {
     ghost from_gives = { λ x s. s ≡ fields_of x };
 
     fn from(x: Scenario) -> HostScenario {
-        let rupture = Flagged::from(x.rupture.map(|d| d.0));
-        let projection = Flagged::from(x.projection.map(|d| d.0));
+        let rupture = Flagged::from(x.rupture);
+        let projection = Flagged::from(x.projection);
         HostScenario {
             model: x.model,
             magnitude: x.magnitude,

@@ -1,7 +1,7 @@
 // The page that the program prints, as bytes.
 #![tactic(auto, using(report_theory::proofs::LineLaws::page_steps))]
 
-ghost use Rattle.std.specs.Prelude.{◌≡◌, ◌+◌, ◌*◌, ◌≤◌, ◌++◌, length, take};
+ghost use Rattle.std.specs.Prelude.{◌≡◌, ◌+◌, ◌*◌, ◌≤◌, [], ◌++◌, length, take};
 ghost use Rattle.arrayvec.specs.ArrayVec.{array_vec_len};
 ghost use Rattle.report_theory.specs.Lines.{line_of, last_line_of};
 ghost use Rattle.enclosures_theory.specs.Sizes.{bytes_taken, lines_most, line_most, last_most, page_most};
@@ -17,7 +17,8 @@ use lines::{push_last_line, push_line};
 // Room for all that is printed, `page_most`.
 pub const PAGE_MOST: usize = 75_849;
 
-type Page = ArrayVec<u8, PAGE_MOST>;
+// What is printed is put together in place, since two such pages would need as much of the stack again.
+pub type Page = ArrayVec<u8, PAGE_MOST>;
 
 // Puts the line of an answer, and its end.
 fn push_answer(page: &mut Page, position: u64, a: Answer)
@@ -61,6 +62,16 @@ fn push_answers(page: &mut Page, s: &[u8]) -> u64
     count
 }
 
+// Puts all that is printed for the bytes of s on an empty page.
+pub fn push_page(page: &mut Page, s: &[u8])
+    requires { (page.old.items ≡ []) × (length s.now ≤ bytes_taken) }
+    ensures { page.new.items ≡ lines_of s.now }
+{
+    push_text(page, b"enclosures\n");
+    let count = push_answers(page, s);
+    push_count(page, count);
+}
+
 // Puts all that is printed for the bytes of s, and answers how many bytes it has.
 pub fn put_page(s: &[u8], out: &mut [u8]) -> usize
     requires { (page_most ≤ length out.old) × (length s.now ≤ bytes_taken) }
@@ -68,8 +79,6 @@ pub fn put_page(s: &[u8], out: &mut [u8]) -> usize
     ensures upper_bound { result ≤ length out.new }
 {
     let mut page = Page::new();
-    push_text(&mut page, b"enclosures\n");
-    let count = push_answers(&mut page, s);
-    push_count(&mut page, count);
+    push_page(&mut page, s);
     put_whole(page.as_slice(), out)
 }

@@ -1,5 +1,5 @@
 -- The line of an answer in the parts that the code puts, and what is left of the lent bytes.
-use mathlib.Core.Path.{◌≡◌}
+use mathlib.Core.Path.{◌≡◌, refl}
 use mathlib.Core.Bool.{Bool, true, false, cond}
 use mathlib.Core.List.{List, [], ◌∷◌, ◌++◌, append_assoc, append-nil}
 use Prim.Native.Nat.{ℕ, ◌≤◌}
@@ -17,7 +17,7 @@ use Rattle.std.specs.Prelude.{Ok, Err}
 use Rattle.scenario_theory.specs.declared.Refusal.{Refusal}
 use Rattle.scenario_theory.specs.Numbers.{refusal_number}
 use Rattle.report_theory.specs.Text.{decimal, signed_decimal, spaced}
-use Rattle.report_theory.specs.Lines.{line_of, last_line_of, length_on, bytes_after}
+use Rattle.report_theory.specs.Lines.{line_of, refused_line_of, numbered_line_of, last_line_of, length_on, bytes_after}
 use Rattle.report_theory.specs.Steps.{ends_bytes}
 use Rattle.report_theory.proofs.TextLaws.{decimal_most}
 
@@ -77,7 +77,17 @@ pub ruleset lines = (
   to_z-of_z,
 )
 
--- no line is longer than this
+-- with the number of a `Refusal` it is the line of an answer
+pub by_refusal : (position : ℕ) (a : Answer) → numbered_line_of refusal_number position a ≡ line_of position a
+unfolding line_of numbered_line_of
+by_refusal position (Ok e) = refl
+by_refusal position (Err r) = refl
+
+-- no line is longer than this, whatever number a refusal has
+pub refused_line_most : (position k : ℕ) → length (refused_line_of position k) ≤ 110
+unfolding spaced
+refused_line_most position k = omega (arith, decimal_most position, decimal_most k, length-append {A = ℕ})
+
 pub line_most_lem : (position : ℕ) (a : Answer) → length (line_of position a) ≤ 110
 line_most_lem position (Ok e) =
     rw (enclosed_parts position e)

@@ -1,7 +1,8 @@
 -- The line of an answer. Document 01, 'Records and doubles', on the program: "one line for each record (position from
 -- 1, E and four ends in the order of the answer, or R and the number, single spaces)".
-use Rattle.std.specs.Prelude.{cond, List, [], ◌∷◌, ◌++◌, map, ℕ, ltb, length, drop, Ok, Err}
+use Rattle.std.specs.Prelude.{cond, List, [], ◌∷◌, ◌++◌, map, ℕ, ℤ, ltb, length, drop, Result, Ok, Err}
 use Rattle.scenario_theory.specs.Numbers.{refusal_number}
+use Rattle.engine_theory.specs.declared.Enclosure.{Enclosure}
 use Rattle.engine_theory.specs.Promise.{Answer, shown_ends}
 use Rattle.report_theory.specs.Text.{ascii, decimal, signed_decimal, spaced}
 
@@ -17,6 +18,12 @@ line_of position a = decimal position ++ spaced (words_of a)
 -- and that of a refusal with any number
 abbrev pub refused_line_of : ℕ → ℕ → List ℕ
 refused_line_of position k = decimal position ++ spaced ((82 ∷ []) ∷ decimal k ∷ [])
+
+-- of either, where a refusal is whatever has a number; where it is a `Refusal`, it is `line_of` (`by_refusal` of
+-- proofs/LineLaws)
+unfoldable pub numbered_line_of : {R : Type 0} → (R → ℕ) → ℕ → Result (Enclosure ℤ) R → List ℕ
+numbered_line_of number position (Ok e) = line_of position (Ok e)
+numbered_line_of number position (Err r) = refused_line_of position (number r)
 
 -- '"end" with the count of those record lines', without its line end
 abbrev pub end_bytes : List ℕ

@@ -1,0 +1,5 @@
+-- Each call has a digit less.
+use Rattle.decimal.proofs.+push_digits.Given as goal
+
+abbrev pub decreases-push_digits : goal.decreases-push_digits
+decreases-push_digits l = l.n
