@@ -184,19 +184,60 @@ def function_not_listed(root):
     return [f'  `{path}`\n', '+pub fn same(x: u64) -> u64']
 
 
+def refused(root, text, *said, path=None):
+    """Add a source that the tool refuses by itself, at a line of it, and return its words."""
+    path = path or added(root)
+    write(root, path, text)
+    return [f'{path}:{said[0]}', *said[1:]]
+
+
 def method_added(root):
     """A pub fn of an impl has no contract."""
-    path = added(root)
-    write(root, path, 'impl Made {\n    pub fn added(x: u64) -> u64 {\n        x\n    }\n}\n')
-    return [f'{path}:2: added has no ensures']
+    return refused(root, 'impl Made {\n    pub fn added(x: u64) -> u64 {\n        x\n    }\n}\n',
+                   '2: added has no ensures')
+
+
+def trait_unsaid(root):
+    """An impl of a trait does not say what it gives."""
+    return refused(root, 'impl From<Made> for u64 {\n    fn from(x: Made) -> u64 {\n        x.x\n    }\n}\n',
+                   '1: an impl that does not say what it gives')
+
+
+def trait_without_promise(root):
+    """A function of a trait has no contract."""
+    return refused(root, 'pub trait Made {\n    fn added(self) -> u64;\n}\n', '2: added has no ensures')
+
+
+def trait_with_requires(root):
+    """A function of a trait has a requires in a crate that is open to callers."""
+    return refused(root, 'pub trait Made {\n    fn added(self) -> u64\n        requires { ⊥ }\n'
+                   '        ensures { result ≡ 0 };\n}\n', '2: added has a requires',
+                   path=os.path.join(os.path.dirname(function(root, crates(root, OPEN))[0]), 'added.rt'))
+
+
+def body_left_out(root):
+    """A function that is no trait's has no body."""
+    return refused(root, 'fn added(x: u64) -> u64;\n', '1: added has no body')
+
+
+def form_unknown(root):
+    """A function stands where the tool does not look for one."""
+    return refused(root, 'macro_rules! made {\n    () => {\n        pub fn added(x: u64) -> u64 {\n'
+                   '            x\n        }\n    };\n}\n',
+                   '1: a form that this tool does not know: macro_rules! made {')
+
+
+def function_hidden(root):
+    """A function stands within a literal, as far as the tool can see."""
+    return refused(root, 'const A: u8 = b"\npub fn hidden(x: u64) -> u64 {\n    x\n}\n";\n',
+                   '1: 0 functions were understood', 'a plain count has 1')
 
 
 def method_not_listed(root):
     """A pub fn of an impl stands in the source and not on the page."""
     path = added(root)
-    write(root, path, 'impl Made {\n    pub fn added(x: u64) -> u64\n        ensures { result ≡ x }\n'
-          '    {\n        x\n    }\n}\n')
-    return [f'  `{path}`\n', '+    pub fn added(x: u64) -> u64']
+    write(root, path, 'impl Made {\n' + re.sub('^', '    ', SAME.strip(), flags=re.M) + '\n}\n')
+    return [f'  `{path}`\n', '+    pub fn same(x: u64) -> u64']
 
 
 def method_promise_changed(root):
@@ -207,50 +248,6 @@ def method_promise_changed(root):
             change(root, path, match[0], match[0].replace(match[1], 'result ≡ result'))
             return [f'  `{path}`', '+        ensures { result ≡ result }']
     raise Fault('no impl has a pub fn with a promise')
-
-
-def trait_without_promise(root):
-    """A function of a trait has no contract."""
-    path = added(root)
-    write(root, path, 'pub trait Made {\n    fn added(self) -> u64;\n}\n')
-    return [f'{path}:2: added has no ensures']
-
-
-def body_left_out(root):
-    """A function that is no trait's has no body."""
-    path = added(root)
-    write(root, path, 'fn added(x: u64) -> u64;\n')
-    return [f'{path}:1: added has no body']
-
-
-def trait_with_requires(root):
-    """A function of a trait has a requires in a crate that is open to callers."""
-    path = os.path.join(os.path.dirname(function(root, crates(root, OPEN))[0]), 'added.rt')
-    write(root, path, 'pub trait Made {\n    fn added(self) -> u64\n        requires { ⊥ }\n'
-          '        ensures { result ≡ 0 };\n}\n')
-    return [f'{path}:2: added has a requires']
-
-
-def form_unknown(root):
-    """A function stands where the tool does not look for one."""
-    path = added(root)
-    write(root, path, 'macro_rules! made {\n    () => {\n        pub fn added(x: u64) -> u64 {\n'
-          '            x\n        }\n    };\n}\n')
-    return [f'{path}:1: a form that this tool does not know: macro_rules! made {{']
-
-
-def trait_unsaid(root):
-    """An impl of a trait does not say what it gives."""
-    path = added(root)
-    write(root, path, 'impl From<Made> for u64 {\n    fn from(x: Made) -> u64 {\n        x.x\n    }\n}\n')
-    return [f'{path}:1: an impl that does not say what it gives']
-
-
-def function_hidden(root):
-    """A function stands within a literal, as far as the tool can see."""
-    path = added(root)
-    write(root, path, 'const A: u8 = b"\npub fn hidden(x: u64) -> u64 {\n    x\n}\n";\n')
-    return [f'{path}:1: 0 functions were understood', 'a plain count has 1']
 
 
 def pair(root, path, text):

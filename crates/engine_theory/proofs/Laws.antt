@@ -18,7 +18,8 @@ use Rattle.idriss_theory.specs.Sigma.{clamp}
 use Rattle.idriss_theory.specs.Evaluation.{sigma_of as idriss_sigma_of}
 use Rattle.idriss_theory.proofs.SigmaLaws.{by_clamped}
 use Rattle.engine_theory.specs.declared.Enclosure.{Enclosure}
-use Rattle.engine_theory.specs.Promise.{Answer, DoublesAnswer, answer_number, AnswerPromise, sigma_values, SameSigma, DoublesPromise}
+use Rattle.engine_theory.specs.Promise.{Answer, DoublesAnswer, answer_number, AnswerPromise}
+use Rattle.engine_theory.specs.Promise.{sigma_values, SameSigma, DoublesPromise}
 use Rattle.engine_theory.specs.Ranges.{AnswerInRange}
 use Rattle.engine_theory.specs.Evaluation.{idriss_enclosure_of, enclosure_of, answer_by, answer_of, SmallAnswer}
 use Rattle.engine_theory.specs.Evaluation.{doubles_of, in_doubles}

@@ -1,5 +1,5 @@
 -- The line of an answer in the parts that the code puts, and what is left of the lent bytes.
-use mathlib.Core.Path.{◌≡◌, refl}
+use mathlib.Core.Path.{◌≡◌, refl, sym}
 use mathlib.Core.Bool.{Bool, true, false, cond}
 use mathlib.Core.List.{List, [], ◌∷◌, ◌++◌, append_assoc, append-nil}
 use Prim.Native.Nat.{ℕ, ◌≤◌}
@@ -77,11 +77,15 @@ pub ruleset lines = (
   to_z-of_z,
 )
 
--- with the number of a `Refusal` it is the line of an answer
+-- the line of a `Refusal` is that of its number
+pub refused_is : (position : ℕ) (r : Refusal) → line_of position (Err r) ≡ refused_line_of position (refusal_number r)
+unfolding line_of
+refused_is position r = refl
+
 pub by_refusal : (position : ℕ) (a : Answer) → numbered_line_of refusal_number position a ≡ line_of position a
-unfolding line_of numbered_line_of
+unfolding numbered_line_of
 by_refusal position (Ok e) = refl
-by_refusal position (Err r) = refl
+by_refusal position (Err r) = sym (refused_is position r)
 
 -- no line is longer than this, whatever number a refusal has
 pub refused_line_most : (position k : ℕ) → length (refused_line_of position k) ≤ 110
@@ -92,9 +96,7 @@ pub line_most_lem : (position : ℕ) (a : Answer) → length (line_of position a
 line_most_lem position (Ok e) =
     rw (enclosed_parts position e)
     (omega (arith, decimal_most position, ends_most e.median, ends_most e.sigma, length-append {A = ℕ}))
-line_most_lem position (Err r) =
-    rw (refused_parts position r)
-    (omega (arith, decimal_most position, decimal_most (refusal_number r), length-append {A = ℕ}))
+line_most_lem position (Err r) = rw (refused_is position r) (refused_line_most position (refusal_number r))
 
 pub last_line_most : (count : ℕ) → length (last_line_of count) ≤ 24
 unfolding last_line_of

@@ -19,8 +19,8 @@ line_of position a = decimal position ++ spaced (words_of a)
 abbrev pub refused_line_of : ℕ → ℕ → List ℕ
 refused_line_of position k = decimal position ++ spaced ((82 ∷ []) ∷ decimal k ∷ [])
 
--- of either, where a refusal is whatever has a number; where it is a `Refusal`, it is `line_of` (`by_refusal` of
--- proofs/LineLaws)
+-- the line of an answer or of a refusal, which is whatever has a number; of a `Refusal` it is `line_of` (`by_refusal`
+-- of proofs/LineLaws)
 unfoldable pub numbered_line_of : {R : Type 0} → (R → ℕ) → ℕ → Result (Enclosure ℤ) R → List ℕ
 numbered_line_of number position (Ok e) = line_of position (Ok e)
 numbered_line_of number position (Err r) = refused_line_of position (number r)
