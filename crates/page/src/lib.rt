@@ -40,6 +40,7 @@ fn push_count(page: &mut Page, count: u64)
 
 // Puts a line for each record of s, up to the first that is refused, and answers how many lines these are.
 // No iterator: how far a record goes is known only when it is read.
+// No type for a slice of at most `bytes_taken`: s is the caller's own, and such a type would be the program's alone.
 fn push_answers(page: &mut Page, s: &[u8]) -> u64
     requires { (array_vec_len page.old + line_most * lines_most ≤ PAGE_MOST) × (length s.now ≤ bytes_taken) }
     ensures { Gone page.old.items s.now result page.new.items }
