@@ -27,6 +27,7 @@ impl Numbered for u8 {
     ghost number = { λ k. k };
 
     fn numbered(self) -> u8 {
+        // Any number, those of no `Refusal` too.
         self
     }
 }
